@@ -1,0 +1,3 @@
+pub mod Words
+pub mod Schedule
+pub mod Rounds

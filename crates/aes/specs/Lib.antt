@@ -1,0 +1,4 @@
+pub mod State
+pub mod KeyExpansion
+pub mod Cipher
+pub mod Theorems

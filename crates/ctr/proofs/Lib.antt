@@ -1,0 +1,4 @@
+pub mod Xors
+pub mod Stream
+pub mod Counter
+pub mod Refusals

@@ -1,0 +1,3 @@
+pub mod CounterMode
+pub mod Call
+pub mod Theorems

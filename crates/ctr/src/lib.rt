@@ -1,0 +1,115 @@
+// Counter mode under AES-256 (SP 800-38A, section 6.5).
+//
+// `counter_mode` is the public call: any arguments, refused by 3 or 13 or served. `ctr_into` and `ctr_from_into` are for
+// callers that have no refusal left to make, and `apply_keystream` for those that hold a schedule. One loop serves all
+// of them: block n has the counter of the IV plus n, computed anew, so that a text may begin at any byte.
+ghost use mathlib.Core.Path.{_≡_};
+ghost use Prim.Native.Nat.{_+_, _*_, _/_, _^_, _<_, _≤_};
+ghost use lib.ListN.{length};
+ghost use Rattle.block.specs.Number.{blockNumber};
+ghost use Rattle.field.specs.Sbox.{IsSbox};
+ghost use Rattle.refusals.specs.Numbers.{answerNumber, unlessRefused};
+ghost use Rattle.ctr.specs.CounterMode.{outputBlock, stream, xors, ctrFrom, ctr};
+ghost use Rattle.ctr.specs.Call.{ctrRefusal};
+ghost use Rattle.ctr.specs.Theorems.{CtrLaws};
+use block::Block;
+use refusals::Answer;
+use refusals::Refusal;
+
+// The output block of the counter block that is n after iv.
+pub fn output_block(t: &[u8; 256], w: &[u8; 240], iv: Block, n: usize) -> [u8; 16]
+    requires { ⌜ IsSbox (now t) ⌝ }
+    ensures { λ r. ⌜ r ≡ outputBlock (now (w .entry)) (blockNumber iv + n) ⌝ }
+{
+    let counter = block::block_bytes(block::add(iv, n as u64));
+    aes::encrypt_block(t, w, counter)
+}
+
+// The end of the bytes of a text of len bytes that stand in one block with byte i, the text beginning at byte n.
+fn block_end(n: usize, i: usize, len: usize) -> usize
+    requires { ⌜ (i < len) × (n + len < 2 ^ 63) ⌝ }
+    ensures { λ r. ⌜ (i < r) × (r ≤ len) × (n + r ≤ (n + i) / 16 * 16 + 16) ⌝ }
+{
+    let end = i + (16 - (n + i) % 16);
+    if end > len {
+        return len;
+    }
+    end
+}
+
+// The sum of a text and the stream from byte n on, under a schedule.
+pub fn apply_keystream(
+    t: &[u8; 256],
+    w: &[u8; 240],
+    iv: Block,
+    n: usize,
+    text: &[u8],
+    out: &mut [u8],
+)
+    requires { ⌜ IsSbox (now t) ⌝ }
+    requires { ⌜ length (now out) ≡ length (now text) ⌝ }
+    requires { ⌜ n + length (now text) < 2 ^ 63 ⌝ }
+    ensures { λ r. ⌜ now (out .exit) ≡ xors (now (text .entry)) (stream (now (w .entry)) (blockNumber iv) n (length (now (text .entry)))) ⌝ }
+{
+    let mut i = 0;
+    while i < text.len() {
+        let s = output_block(t, w, iv, (n + i) / 16);
+        let end = block_end(n, i, text.len());
+        while i < end {
+            let r = (n + i) % 16;
+            out[i] = text[i] ^ s[r];
+            i += 1;
+        }
+    }
+}
+
+// Counter mode of a text that begins at byte n of a longer one.
+pub fn ctr_from_into(key: &[u8], iv: &[u8], n: usize, text: &[u8], out: &mut [u8])
+    requires { ⌜ length (now key) ≡ 32 ⌝ }
+    requires { ⌜ length (now iv) ≡ 16 ⌝ }
+    requires { ⌜ length (now out) ≡ length (now text) ⌝ }
+    requires { ⌜ n + length (now text) < 2 ^ 63 ⌝ }
+    ensures { λ r. ⌜ now (out .exit) ≡ ctrFrom (now (key .entry)) (now (iv .entry)) n (now (text .entry)) ⌝ }
+{
+    let t = field::sbox_table();
+    let w = aes::key_expansion(&t, key);
+    let c = block::load_block(iv, 0);
+    apply_keystream(&t, &w, c, n, text, out);
+}
+
+// Counter mode of a text.
+pub fn ctr_into(key: &[u8], iv: &[u8], text: &[u8], out: &mut [u8])
+    requires { ⌜ length (now key) ≡ 32 ⌝ }
+    requires { ⌜ length (now iv) ≡ 16 ⌝ }
+    requires { ⌜ length (now out) ≡ length (now text) ⌝ }
+    requires { ⌜ length (now text) < 2 ^ 63 ⌝ }
+    ensures { λ r. ⌜ now (out .exit) ≡ ctr (now (key .entry)) (now (iv .entry)) (now (text .entry)) ⌝ }
+{
+    ctr_from_into(key, iv, 0, text, out);
+}
+
+// Counter mode of a text of 0 to 4,096 bytes, or refusal 3 or 13, by which the output stays as it was.
+pub fn counter_mode(key: &[u8], iv: &[u8], text: &[u8], out: &mut [u8]) -> Answer
+    ensures answer { λ r. ⌜ answerNumber r ≡ ctrRefusal (length (now (key .entry))) (length (now (iv .entry))) (length (now (text .entry))) (length (now (out .entry))) ⌝ }
+    ensures output { λ r. ⌜ now (out .exit) ≡ unlessRefused (answerNumber r) (ctr (now (key .entry)) (now (iv .entry)) (now (text .entry))) (now (out .entry)) ⌝ }
+{
+    if key.len() != 32 {
+        return Answer::Refused(Refusal::KeyLength);
+    }
+    if iv.len() != 16 {
+        return Answer::Refused(Refusal::WrongLength);
+    }
+    if text.len() > 4096 {
+        return Answer::Refused(Refusal::WrongLength);
+    }
+    if out.len() != text.len() {
+        return Answer::Refused(Refusal::WrongLength);
+    }
+    ctr_into(key, iv, text, out);
+    Answer::Served
+}
+
+// The laws of counter mode: nothing runs, and the check has to prove them.
+pub fn ctr_laws()
+    ensures { λ r. ⌜ CtrLaws ⌝ }
+{}

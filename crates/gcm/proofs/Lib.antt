@@ -1,0 +1,4 @@
+pub mod Gctr
+pub mod Parts
+pub mod Same
+pub mod Refusals

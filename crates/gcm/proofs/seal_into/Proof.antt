@@ -1,0 +1,55 @@
+-- `gcm::seal_into` meets its contract. Assumes nothing.
+use mathlib.Core.Path.{ap, _∙_}
+use borrow.Author.Needs.{needs}
+use Rattle.ctr.proofs.Xors.{xors-length}
+use Rattle.gcm.specs.Gcm.{gcmTag}
+use Rattle.gcm.proofs.Gctr.{text-stream, tagUnder-length, tag-key}
+use Rattle.gcm.proofs.seal_into.Statement.{statement}
+use Rattle.gcm.proofs.seal_into.Tie as tie
+
+tag-of-requires : tie.Need-tag-of-requires
+tag-of-requires c κs =
+    let enciphered = c .before .before .before .before .before in
+    let table = enciphered .before .before .before .before .before .before .before in
+    let pre = table .before .before .before .before .before .before .before .pre in
+    (table .sbox-table .ensures, (pre .1 .0, (pre .1 .1 .0, rw (enciphered .apply-keystream .ensures, xors-length) (pre .1 .1 .1 .0))))
+
+copy-requires : tie.Need-copy-requires
+copy-requires c κs =
+    let tagged = c .before .before in
+    let expanded = tagged .before .before .before .before .before .before .before .before .before .before .before in
+    let start = expanded .before .before .before .before .before .before .before .before .before in
+    rw (tagged .tag-of .ensures, tagUnder-length) (start .pre .1 .1 .1 .1 .1)
+
+returns : tie.Need-returns
+returns c =
+    let copied = c .before .before in
+    let tagged = copied .before .before .before in
+    let enciphered = tagged .before .before .before .before .before .before in
+    let counter = enciphered .before .before .before .before in
+    let expanded = counter .before in
+    let start = expanded .before .before .before .before .before .before .before .before .before in
+    let a = start .args in
+    let w = expanded .key-expansion .ensures in
+    let text =
+    text-stream (a .key .now) (a .iv .now) (a .text .now) w (counter .counter-block .ensures) (start .pre .1 .1 .1 .0)
+    (enciphered .apply-keystream .ensures) in (
+      text,
+      copied .copy .ensures ∙ tag-key (a .key .now) (a .iv .now) (a .aad .now) _ w (tagged .tag-of .ensures)
+          ∙ ap (gcmTag (a .key .now) (a .iv .now) (a .aad .now)) text,
+    )
+
+pub seal-into-spec : {M : Type 1} → statement M
+seal-into-spec =
+    tie.close
+    (tie.spec
+    (λ c κs. search needs)
+    (λ c κs. search needs)
+    (λ c κs. search needs)
+    (λ c κs. search needs)
+    tag-of-requires
+    (λ c. search needs)
+    copy-requires
+    (λ c. search needs)
+    (λ c. search needs)
+    returns)

@@ -1,0 +1,3 @@
+pub mod Gcm
+pub mod Call
+pub mod Theorems

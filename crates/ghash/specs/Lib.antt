@@ -1,0 +1,3 @@
+pub mod Product
+pub mod Hash
+pub mod Theorems

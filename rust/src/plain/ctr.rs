@@ -1,0 +1,41 @@
+//! Counter mode (SP 800-38A, section 6.5). The IV is the first counter, and the counter adds one
+//! over all 128 bits.
+
+use super::aes::{RoundKeys, BLOCK};
+use crate::{CTR_TEXT_LIMIT, POSITION_LIMIT, SERVED, WRONG_KEY, WRONG_LENGTH};
+
+/// Encrypts or decrypts `text`.
+pub fn counter_mode(key: &[u8], iv: &[u8], text: &[u8], out: &mut [u8]) -> u8 {
+    keystream_at(key, iv, 0, text, out)
+}
+
+/// Encrypts or decrypts a text that begins at byte `position` of a longer one.
+pub fn keystream_at(key: &[u8], iv: &[u8], position: u64, text: &[u8], out: &mut [u8]) -> u8 {
+    let Ok(key) = key.try_into() else {
+        return WRONG_KEY;
+    };
+    let Ok(iv) = iv.try_into() else {
+        return WRONG_LENGTH;
+    };
+    if text.len() > CTR_TEXT_LIMIT || out.len() != text.len() || position > POSITION_LIMIT {
+        return WRONG_LENGTH;
+    }
+    let keys = RoundKeys::new(key);
+    let block = BLOCK as u64;
+    let mut counter = u128::from_be_bytes(iv).wrapping_add(u128::from(position / block));
+    // The bytes of the first keystream block that come before the text.
+    let mut skipped = (position % block) as usize;
+    let mut start = 0;
+    while start < text.len() {
+        let keystream = keys.encrypt(counter.to_be_bytes());
+        let end = text.len().min(start + BLOCK - skipped);
+        let bytes = text[start..end].iter().zip(&keystream[skipped..]);
+        for (byte, (text_byte, keystream_byte)) in out[start..end].iter_mut().zip(bytes) {
+            *byte = text_byte ^ keystream_byte;
+        }
+        counter = counter.wrapping_add(1);
+        skipped = 0;
+        start = end;
+    }
+    SERVED
+}
