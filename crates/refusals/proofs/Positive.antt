@@ -1,0 +1,26 @@
+-- No refusal has the number 0, which stands for served. Assumes nothing.
+use Prim.Native.Nat.{ℕ, _<_}
+use native.Mathlib.Omega.{arith}
+use Rattle.refusals.specs.Numbers.{refusalNumber}
+use Rattle.refusals.specs.declared.Refusal.{Refusal}
+use Rattle.refusals.specs.declared.Refusal.the-variants.{BadGeometry, DeviceLength, KeyLength, TableLength, BadPermutation, NoCell, HeaderTag, HeaderGeometry, BadEntry, SliceTwice, VolumeAbove, AddressAbove, WrongLength, MalformedLine, TagDiffers, NotOpen, TapeShort, NoFreeSlice}
+
+pub refusal-positive : (r : Refusal) → 0 < refusalNumber r
+refusal-positive BadGeometry = omega arith
+refusal-positive DeviceLength = omega arith
+refusal-positive KeyLength = omega arith
+refusal-positive TableLength = omega arith
+refusal-positive BadPermutation = omega arith
+refusal-positive NoCell = omega arith
+refusal-positive HeaderTag = omega arith
+refusal-positive HeaderGeometry = omega arith
+refusal-positive BadEntry = omega arith
+refusal-positive SliceTwice = omega arith
+refusal-positive VolumeAbove = omega arith
+refusal-positive AddressAbove = omega arith
+refusal-positive WrongLength = omega arith
+refusal-positive MalformedLine = omega arith
+refusal-positive TagDiffers = omega arith
+refusal-positive NotOpen = omega arith
+refusal-positive TapeShort = omega arith
+refusal-positive NoFreeSlice = omega arith
