@@ -1,0 +1,167 @@
+-- After a served write each block of an open volume is what it was, but for the block written. Assumes nothing.
+use Prim.Native.Nat.{ℕ, _+_, _*_, _/_, _%_, _≤_, _<_}
+use mathlib.Core.Path.{_≡_, sym, ap, ap₂, _∙_}
+use mathlib.Core.List.{List}
+use mathlib.Core.Bool.{Bool, true, false}
+use mathlib.Core.Logic.{inl, inr, ⊎-elim}
+use native.Mathlib.Omega.{arith}
+use native.Mathlib.Nat.{div-add-mod', mod-lt, div-lt-iff-lt-mul}
+use lib.ListN.{length, replicate, length-replicate, length-append}
+use lib.Arith.{digits-div, digits-mod}
+use lib.Dec.{eqb}
+use borrow.Author.Tests.{lt-ltb, le-ltb}
+use Rattle.ctr.specs.CounterMode.{ctr}
+use Rattle.ctr.proofs.Stream.{ctr-twice, ctr-length}
+use Rattle.model.specs.declared.Geometry.{Geometry}
+use Rattle.model.specs.Parts.{choose, part, overlay, joined}
+use Rattle.model.specs.Geometry.{deviceLength, sliceSize, sliceStart, ivStart, blockStart, Allowed}
+use Rattle.model.specs.Session.{blockCount, slot, sliceOf, offsetOf}
+use Rattle.model.specs.Read.{deciphered}
+use Rattle.model.specs.Write.{claimedBytes}
+use Rattle.model.proofs.Parts.{overlay-length, overlay-within, overlay-whole, part-left, part-right, joined-length, joined-part}
+use Rattle.guarantees.proofs.Reflects.{below}
+use Rattle.guarantees.proofs.Places.{Apart, overlay-apart, slice-fits, block-in, iv-in, iv-in-slice, apart, iv-iv, iv-block, block-iv, block-block}
+
+-- ---- addresses
+
+module _ (g : Geometry) where
+  pub offsetOf-lt : Allowed g → (a : ℕ) → offsetOf g a < g .s
+  offsetOf-lt ok a = mod-lt a (ok .slice-least)
+
+  pub sliceOf-lt : Allowed g → (i a : ℕ) → a < blockCount g i → sliceOf g a < g .p
+  sliceOf-lt ok i a l = div-lt-iff-lt-mul (ok .slice-least) .1 l
+
+  pub same-address : (a b : ℕ) → sliceOf g a ≡ sliceOf g b → offsetOf g a ≡ offsetOf g b → a ≡ b
+  same-address a b e f = sym (div-add-mod' a (g .s)) ∙ ap₂ (λ (x y : ℕ). x * g .s + y) e f ∙ div-add-mod' b (g .s)
+
+  pub same-slot : (i σ j τ : ℕ) → σ < g .p → τ < g .p → slot g i σ ≡ slot g j τ → (i ≡ j) × (σ ≡ τ)
+  same-slot i σ j τ hσ hτ e = (
+    sym (digits-div i hσ) ∙ ap (λ (x : ℕ). x / g .p) e ∙ digits-div j hτ,
+    sym (digits-mod i hσ) ∙ ap (λ (x : ℕ). x % g .p) e ∙ digits-mod j hτ,
+  )
+
+-- ---- what a block is
+
+module _ (g : Geometry) (key : List ℕ) (ψ j : ℕ) where
+  deciphered-mapped : (device : List ℕ) → ψ < g .p
+      → deciphered g key ψ j device ≡ ctr key (part (ivStart g ψ j) 16 device) (part (blockStart g ψ j) (g .b) device)
+  unfolding deciphered
+  deciphered-mapped device l = rw (lt-ltb _ _ l)
+
+  pub deciphered-unmapped : (device : List ℕ) → g .p ≤ ψ → deciphered g key ψ j device ≡ replicate (g .b) 0
+  unfolding deciphered
+  deciphered-unmapped device l = rw (le-ltb _ _ l)
+
+  -- On two devices with the same IV and block there, or where nothing is mapped.
+  pub deciphered-same : (s t : List ℕ)
+      → (ψ < g .p → (part (ivStart g ψ j) 16 s ≡ part (ivStart g ψ j) 16 t) × (part (blockStart g ψ j) (g .b) s ≡ part (blockStart g ψ j) (g .b) t))
+      → deciphered g key ψ j s ≡ deciphered g key ψ j t
+  deciphered-same s t same =
+      ⊎-elim (λ l. deciphered-mapped s l ∙ ap₂ (ctr key) (same l .0) (same l .1) ∙ sym (deciphered-mapped t l))
+      (λ l. deciphered-unmapped s l ∙ sym (deciphered-unmapped t l)) (below ψ (g .p))
+
+-- ---- a block stored anew
+
+module _ (g : Geometry) (ok : Allowed g) (device key iv text : List ℕ) (ψ j : ℕ) (hψ : ψ < g .p) (hj : j < g .s)
+    (long : length device ≡ deviceLength g) (ivl : length iv ≡ 16) (textl : length text ≡ g .b) where
+  abbrev device₁ : List ℕ
+  device₁ = overlay device (ivStart g ψ j) iv
+
+  abbrev restored : List ℕ
+  restored = overlay device₁ (blockStart g ψ j) (ctr key iv text)
+
+  cipher-long : length (ctr key iv text) ≡ g .b
+  cipher-long = ctr-length key iv text ∙ textl
+
+  iv-fits : ivStart g ψ j + 16 ≤ length device
+  unfolding ivStart
+  iv-fits = omega (arith, slice-fits g hψ, iv-in-slice g ok hj)
+
+  block-fits : blockStart g ψ j + g .b ≤ length device₁
+  unfolding blockStart
+  block-fits = omega (arith, overlay-length device (ivStart g ψ j) iv, slice-fits g hψ, block-in g hj)
+
+  -- A part apart from both places written.
+  untouched : (a n : ℕ) → Apart a n (ivStart g ψ j) 16 → Apart a n (blockStart g ψ j) (g .b) → part a n restored ≡ part a n device
+  untouched a n p q =
+      overlay-apart device₁ (blockStart g ψ j) (ctr key iv text) a n (g .b) cipher-long q
+      ∙ overlay-apart device (ivStart g ψ j) iv a n 16 ivl p
+
+  pub restored-here : deciphered g key ψ j restored ≡ text
+  restored-here =
+      deciphered-mapped g key ψ j restored hψ
+      ∙ ap₂ (ctr key)
+      (overlay-apart device₁ (blockStart g ψ j) (ctr key iv text) (ivStart g ψ j) 16 (g .b) cipher-long (iv-block g ok ψ ψ j j hj hj)
+      ∙ overlay-whole device (ivStart g ψ j) iv 16 ivl iv-fits)
+      (overlay-whole device₁ (blockStart g ψ j) (ctr key iv text) (g .b) cipher-long block-fits)
+      ∙ ctr-twice key iv text
+
+  -- Any other block of any slice, under any key.
+  pub restored-other : (key′ : List ℕ) (φ n : ℕ) → n < g .s → (φ ≡ ψ → n ≡ j → ⊥) → deciphered g key′ φ n restored ≡ deciphered g key′ φ n device
+  restored-other key′ φ n hn ne =
+      deciphered-same g key′ φ n restored device (λ l. (
+        untouched (ivStart g φ n) 16 (iv-iv g ok φ ψ n j hn hj ne) (iv-block g ok φ ψ n j hn hj),
+        untouched (blockStart g φ n) (g .b) (block-iv g ok φ ψ n j hn hj) (block-block g ok φ ψ n j hn hj ne),
+      ))
+
+-- ---- a slice claimed
+
+-- The text of block n of a slice that is claimed for a text in block j.
+abbrev pub claimedText : Geometry → (text : List ℕ) → (j n : ℕ) → List ℕ
+claimedText g text j n = choose (eqb n j) text (replicate (g .b) 0)
+
+module _ (g : Geometry) (key ivs text : List ℕ) (j : ℕ) (ivsl : length ivs ≡ g .b) (textl : length text ≡ g .b) where
+  abbrev cipher : ℕ → List ℕ
+  cipher n = ctr key (part (16 * n) 16 ivs) (claimedText g text j n)
+
+  cipher-length : (n : ℕ) → length (cipher n) ≡ g .b
+  cipher-length n = ctr-length key (part (16 * n) 16 ivs) (claimedText g text j n) ∙ go (eqb n j)
+    where
+      go : (x : Bool) → length (choose x text (replicate (g .b) 0)) ≡ g .b
+      go true = textl
+      go false = length-replicate (g .b) 0
+
+  abbrev bytes : List ℕ
+  bytes = claimedBytes (g .b) (g .s) key ivs j text
+
+  pub claimed-length : length bytes ≡ sliceSize g
+  unfolding claimedBytes sliceSize
+  claimed-length = length-append ivs (joined (g .s) cipher) ∙ rw (ivsl, joined-length (g .b) (g .s) cipher (λ n l. cipher-length n)) (omega arith)
+
+  module _ (ok : Allowed g) (device : List ℕ) (long : length device ≡ deviceLength g) (ψ : ℕ) (hψ : ψ < g .p) where
+    abbrev filled : List ℕ
+    filled = overlay device (sliceStart g ψ) bytes
+
+    fits : sliceStart g ψ + length bytes ≤ length device
+    fits = omega (arith, slice-fits g hψ, claimed-length)
+
+    iv-of : (n : ℕ) → n < g .s → part (ivStart g ψ n) 16 filled ≡ part (16 * n) 16 ivs
+    unfolding ivStart claimedBytes
+    iv-of n l =
+        overlay-within device (sliceStart g ψ) bytes (16 * n) 16 (omega (arith, claimed-length, iv-in-slice g ok l)) fits
+        ∙ part-left ivs (joined (g .s) cipher) (16 * n) 16 (omega (arith, iv-in g ok l))
+
+    block-of : (n : ℕ) → n < g .s → part (blockStart g ψ n) (g .b) filled ≡ cipher n
+    unfolding blockStart claimedBytes
+    block-of n l =
+        let skip : g .b * (1 + n) ≡ g .b + n * g .b = omega arith in
+        overlay-within device (sliceStart g ψ) bytes (g .b * (1 + n)) (g .b) (omega (arith, claimed-length, block-in g l)) fits
+        ∙ ap (λ (x : ℕ). part x (g .b) bytes) skip
+        ∙ part-right ivs (joined (g .s) cipher) (g .b) ivsl (n * g .b) (g .b)
+        ∙ joined-part (g .b) (g .s) cipher (λ m k. cipher-length m) n l
+
+    pub filled-here : (n : ℕ) → n < g .s → deciphered g key ψ n filled ≡ claimedText g text j n
+    filled-here n l =
+        deciphered-mapped g key ψ n filled hψ ∙ ap₂ (ctr key) (iv-of n l) (block-of n l) ∙ ctr-twice key (part (16 * n) 16 ivs) (claimedText g text j n)
+
+    -- What lies within another slice stays.
+    elsewhere : (φ x u : ℕ) → (φ ≡ ψ → ⊥) → x + u ≤ sliceSize g → part (sliceStart g φ + x) u filled ≡ part (sliceStart g φ + x) u device
+    elsewhere φ x u ne k =
+        overlay-apart device (sliceStart g ψ) bytes (sliceStart g φ + x) u (sliceSize g) claimed-length
+        (⊎-elim (λ l. inl (omega arith)) (λ l. inr (omega arith)) (apart g φ ψ x u 0 (sliceSize g) k (omega arith) (λ e. absurd (ne e))))
+
+    pub filled-other : (key′ : List ℕ) (φ n : ℕ) → n < g .s → (φ ≡ ψ → ⊥) → deciphered g key′ φ n filled ≡ deciphered g key′ φ n device
+    unfolding ivStart blockStart
+    filled-other key′ φ n hn ne =
+        deciphered-same g key′ φ n filled device
+        (λ l. (elsewhere φ (16 * n) 16 ne (iv-in-slice g ok hn), elsewhere φ (g .b * (1 + n)) (g .b) ne (block-in g hn)))

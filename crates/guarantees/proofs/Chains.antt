@@ -1,0 +1,98 @@
+-- Chains of tests: the number that a chain gives is that of the first rule that holds. Assumes nothing.
+use Prim.Native.Nat.{ℕ, suc}
+use mathlib.Core.Path.{_≡_, refl, sym, ap, _∙_}
+use mathlib.Core.Logic.{inl, inr}
+use mathlib.Core.Bool.{Bool, true, false, _||_}
+use mathlib.Core.List.{List, [], _∷_, _++_}
+use native.Mathlib.Omega.{arith}
+use Rattle.refusals.specs.Numbers.{refuse}
+use Rattle.guarantees.specs.Rules.{Rule, rule, First}
+use Rattle.guarantees.proofs.Reflects.{Reflects, holds, fails, Refutes, passes, refutes, refutes-map, or-refutes}
+
+-- ---- lists of rules
+
+-- First as a data type, so that the rules and the numbers need not be written.
+pub data Leads : List Rule → (n c : ℕ) → Type 1 where
+  here : {r : Rule} {rs : List Rule} {n c : ℕ} → r .holds → n ≡ r .number → c ≡ r .probes → Leads (r ∷ rs) n c
+  later : {r : Rule} {rs : List Rule} {n c : ℕ} → (r .holds → ⊥) → Leads rs n c → Leads (r ∷ rs) n c
+  none : Leads [] 0 0
+
+pub leads-first : {rs : List Rule} {n c : ℕ} → Leads rs n c → First rs n c
+unfolding First
+leads-first (here a e d) = inl (a, e, d)
+leads-first (later f q) = inr (f, leads-first q)
+leads-first none = (refl, refl)
+
+-- A refusal by one of the rules is one by them and any after them.
+pub leads-append : {rs : List Rule} (ss : List Rule) {n c : ℕ} → (n ≡ 0 → ⊥) → Leads rs n c → Leads (rs ++ ss) n c
+leads-append ss ne (here a e d) = here a e d
+leads-append ss ne (later f q) = later f (leads-append ss ne q)
+leads-append ss ne none = absurd (ne refl)
+
+-- No rule holds.
+abbrev pub None : List Rule → Type 0
+None [] = Unit
+None (r ∷ rs) = (r .holds → ⊥) × None rs
+
+-- Where no rule holds, nothing is refused.
+pub leads-zero : {rs : List Rule} {n c : ℕ} → Leads rs n c → None rs → n ≡ 0
+leads-zero (here a e d) k = absurd (k .0 a)
+leads-zero (later f q) k = leads-zero q (k .1)
+leads-zero none k = refl
+
+pub none-leads : (rs : List Rule) {ss : List Rule} {n c : ℕ} → None rs → Leads ss n c → Leads (rs ++ ss) n c
+none-leads [] k q = q
+none-leads (r ∷ rs) k q = later (k .0) (none-leads rs (k .1) q)
+
+-- ---- chains of tests
+
+-- t is one test that refuses by n where P fails, else gives the rest.
+pub record Guards (t : ℕ → ℕ) (n : ℕ) (P : Type 0) : Type 0 where
+  pub test : Bool
+  pub decides : Refutes P test
+  pub refuses : (rest : ℕ) → t rest ≡ refuse test n rest
+
+pub refuse-guards : {P : Type 0} {b : Bool} (n : ℕ) → Refutes P b → Guards (refuse b n) n P
+refuse-guards {b} n r = record { test = b; decides = r; refuses = λ rest. refl }
+
+pub guards-map : {t : ℕ → ℕ} {n : ℕ} {P Q : Type 0} → (P → Q) → (Q → P) → Guards t n P → Guards t n Q
+guards-map to from g = record { test = g .test; decides = refutes-map to from (g .decides); refuses = g .refuses }
+
+refuse-or : (b c : Bool) (n rest : ℕ) → refuse b n (refuse c n rest) ≡ refuse (b || c) n rest
+unfolding refuse
+refuse-or true c n rest = refl
+refuse-or false c n rest = refl
+
+-- Two tests with one number are a test of both conditions.
+pub guards-both : {t u : ℕ → ℕ} {n : ℕ} {P Q : Type 0} → Guards t n P → Guards u n Q → Guards (λ rest. t (u rest)) n (P × Q)
+guards-both {u} {n} g k =
+    record {
+      test = g .test || k .test;
+      decides = or-refutes (g .decides) (k .decides);
+      refuses = λ rest. g .refuses (u rest) ∙ ap (refuse (g .test) n) (k .refuses rest) ∙ refuse-or (g .test) (k .test) n rest;
+    }
+
+-- Nothing is refused: the condition holds, and nothing that follows refuses.
+pub guards-none : {t : ℕ → ℕ} {n : ℕ} {P : Type 0} → Guards t (suc n) P → (rest : ℕ) → t rest ≡ 0 → P × (rest ≡ 0)
+unfolding refuse
+guards-none {n} {P} g rest e = go (g .decides) (sym (g .refuses rest) ∙ e)
+  where
+    go : {b : Bool} → Refutes P b → refuse b (suc n) rest ≡ 0 → P × (rest ≡ 0)
+    go (passes p) q = (p, q)
+    go (refutes f) q = absurd (omega arith)
+
+-- One row of a chain is one rule of the list.
+pub leads-refuse : {A : Type 0} {b : Bool} {rest : ℕ} {rs : List Rule} (n : ℕ) → Reflects A b → Leads rs rest 0
+    → Leads (rule n A ∷ rs) (refuse b n rest) 0
+unfolding refuse
+leads-refuse n (holds a) q = here a refl refl
+leads-refuse n (fails f) q = later f q
+
+pub leads-row : {t : ℕ → ℕ} {n rest : ℕ} {P : Type 0} {rs : List Rule} → Guards t n P → Leads rs rest 0
+    → Leads (rule n (P → ⊥) ∷ rs) (t rest) 0
+unfolding refuse
+leads-row {n} {rest} {P} {rs} g q = rw (g .refuses rest) (row (g .decides))
+  where
+    row : {b : Bool} → Refutes P b → Leads (rule n (P → ⊥) ∷ rs) (refuse b n rest) 0
+    row (refutes f) = here f refl refl
+    row (passes p) = later (λ (f : P → ⊥). f p) q

@@ -1,0 +1,226 @@
+-- What a close stores in the map blocks deciphers to the entries held. Assumes nothing.
+use Prim.Native.Nat.{ℕ, zero, suc, _+_, _-_, _*_, _/_, _%_, _^_, _≤_, _<_}
+use mathlib.Core.Path.{_≡_, refl, sym, ap, ap₂, _∙_}
+use mathlib.Core.List.{List, [], _∷_, _++_}
+use mathlib.Core.Logic.{⊎-elim}
+use native.Mathlib.Omega.{arith}
+use native.Mathlib.Nat.{add-zero, zero-add, div-add-mod', mod-lt, mod-eq-of-lt, div-lt-iff-lt-mul, mul-comm, mul-le-mul-left, mul-le-mul-right}
+use native.Mathlib.Nat.{eq-or-lt-of-le, le-of-suc-le-suc}
+use lib.ListN.{length, length-append}
+use lib.Seq.{take-all}
+use lib.Dec.{ltb}
+use borrow.Author.Tests.{lt-ltb}
+use Rattle.block.specs.Bytes.{number}
+use Rattle.block.proofs.Bytes.{number-bigEndian, bigEndian-length}
+use Rattle.ctr.specs.CounterMode.{ctr}
+use Rattle.ctr.proofs.Stream.{ctr-twice, ctr-length}
+use Rattle.model.specs.declared.Geometry.{Geometry}
+use Rattle.model.specs.Parts.{choose, part, overlay, patched}
+use Rattle.model.specs.Geometry.{perBlock, mapBlocks, headerBlocks, deviceLength, numberAt, fourBytes, headerStart, headerOf, mapStart, Allowed}
+use Rattle.model.specs.Session.{Held, geometry, keyOf, entry, unmapped}
+use Rattle.model.specs.Opening.{storedEntry}
+use Rattle.model.specs.Close.{mapText, mapBlock, mapBytes, mapPatches}
+use Rattle.model.specs.Conditions.{EntryFits, Enough}
+use Rattle.guarantees.specs.Runs.{Range, mapRanges}
+use Rattle.model.proofs.Parts.{part-length, part-left, part-right, part-part, overlay-before, overlay-within, joined-length, joined-part}
+use Rattle.model.proofs.Parts.{joined-piece}
+use Rattle.guarantees.proofs.Patches.{rangesOf, ranges-++, patched-length, patched-++}
+use Rattle.guarantees.proofs.Places.{Apart, overlay-apart}
+
+-- ---- one map block
+
+fourBytes-number : (x : ℕ) → x < 256 ^ 4 → number (fourBytes x) ≡ x
+fourBytes-number x l = number-bigEndian 0 4 x ∙ zero-add (x % 256 ^ 4) ∙ mod-eq-of-lt l
+
+module _ (g : Geometry) (ok : Allowed g) where
+  perBlock-whole : 16 + perBlock g * 4 ≡ g .b
+  perBlock-whole = ⊎-elim (λ e. rw e refl) (λ e. rw e refl) (ok .block)
+
+  perBlock-least : 1 ≤ perBlock g
+  perBlock-least = ⊎-elim (λ e. omega arith) (λ e. omega arith) (ok .block)
+
+  -- The m blocks have room for P entries.
+  mapBlocks-room : (σ : ℕ) → σ < g .p → σ / perBlock g < mapBlocks g
+  unfolding mapBlocks
+  mapBlocks-room σ l =
+      let n = g .p + (perBlock g - 1) in
+      div-lt-iff-lt-mul perBlock-least .1
+      (omega (arith, div-add-mod' n (perBlock g), mod-lt n perBlock-least, perBlock-least))
+
+module _ (maps : List ℕ) (g : Geometry) (ok : Allowed g) where
+  abbrev c : ℕ
+  c = perBlock g
+
+  -- The number stored at place e of block t.
+  abbrev stored : ℕ → ℕ → ℕ → ℕ
+  stored i t e = choose (ltb (t * c + e) (g .p)) (entry maps g i (t * c + e)) unmapped
+
+  mapText-length : (i t : ℕ) → length (mapText maps g i t) ≡ c * 4
+  unfolding mapText
+  mapText-length i t = joined-length 4 c (λ e. fourBytes (stored i t e)) (λ e k. bigEndian-length 4 (stored i t e))
+
+  mapText-entry : (i σ : ℕ) → σ < g .p → EntryFits g (entry maps g i σ) → numberAt (4 * (σ % c)) (mapText maps g i (σ / c)) ≡ entry maps g i σ
+  unfolding mapText
+  mapText-entry i σ l fits =
+      ap (λ (y : ℕ). number (part y 4 (mapText maps g i (σ / c)))) (mul-comm 4 (σ % c))
+      ∙ ap number
+      (joined-part 4 c (λ e. fourBytes (stored i (σ / c) e)) (λ e k. bigEndian-length 4 (stored i (σ / c) e)) (σ % c) (mod-lt σ (perBlock-least g ok)))
+      ∙ ap (λ (y : ℕ). number (fourBytes y)) this
+      ∙ fourBytes-number (entry maps g i σ) (⊎-elim (λ e. omega arith) (λ e. omega (arith, ok .slices-most)) fits)
+    where
+      this : stored i (σ / c) (σ % c) ≡ entry maps g i σ
+      this = rw (div-add-mod' σ c, lt-ltb σ (g .p) l) refl
+
+  module _ (key : List ℕ) (i : ℕ) where
+    cipher-length : (t : ℕ) (iv : List ℕ) → length (ctr key iv (mapText maps g i t)) ≡ c * 4
+    cipher-length t iv = ctr-length key iv (mapText maps g i t) ∙ mapText-length i t
+
+    mapBlock-length : (t : ℕ) (iv : List ℕ) → length iv ≡ 16 → length (mapBlock maps g key i t iv) ≡ g .b
+    unfolding mapBlock
+    mapBlock-length t iv e = length-append iv _ ∙ ap₂ (λ (x y : ℕ). x + y) e (cipher-length t iv) ∙ perBlock-whole g ok
+
+    -- A map block is its IV, then its text in counter mode.
+    mapBlock-iv : (t : ℕ) (iv : List ℕ) → length iv ≡ 16 → part 0 16 (mapBlock maps g key i t iv) ≡ iv
+    unfolding mapBlock
+    mapBlock-iv t iv e = part-left iv _ 0 16 (omega arith) ∙ take-all 16 iv (omega arith)
+
+    mapBlock-cipher : (t : ℕ) (iv : List ℕ) → length iv ≡ 16 → part 16 (g .b - 16) (mapBlock maps g key i t iv) ≡ ctr key iv (mapText maps g i t)
+    unfolding mapBlock
+    mapBlock-cipher t iv e =
+        ap (λ (y : ℕ). part y (g .b - 16) (mapBlock maps g key i t iv)) (sym (add-zero 16))
+        ∙ part-right iv (ctr key iv (mapText maps g i t)) 16 e 0 (g .b - 16)
+        ∙ take-all (g .b - 16) (ctr key iv (mapText maps g i t)) (omega (arith, cipher-length t iv, perBlock-whole g ok))
+
+    module _ (tape : List ℕ) (at : ℕ) (enough : Enough (length tape) at (16 * mapBlocks g)) where
+      abbrev iv : ℕ → List ℕ
+      iv t = part (at + 16 * t) 16 tape
+
+      iv-length : (t : ℕ) → t < mapBlocks g → length (iv t) ≡ 16
+      iv-length t l = part-length tape (at + 16 * t) 16 (omega arith)
+
+      each-length : (t : ℕ) → t < mapBlocks g → length (mapBlock maps g key i t (iv t)) ≡ g .b
+      each-length t l = mapBlock-length t (iv t) (iv-length t l)
+
+      mapBytes-length : length (mapBytes maps g key tape at i) ≡ g .b * mapBlocks g
+      unfolding mapBytes
+      mapBytes-length =
+          joined-length (g .b) (mapBlocks g) (λ t. mapBlock maps g key i t (iv t)) each-length ∙ mul-comm (mapBlocks g) (g .b)
+
+      -- A part of block t.
+      mapBytes-part : (t : ℕ) → t < mapBlocks g → (x u : ℕ) → x + u ≤ g .b
+          → part (t * g .b + x) u (mapBytes maps g key tape at i) ≡ part x u (mapBlock maps g key i t (iv t))
+      unfolding mapBytes
+      mapBytes-part t l x u f = joined-piece (g .b) (mapBlocks g) (λ n. mapBlock maps g key i n (iv n)) each-length t l x u f
+
+-- ---- the patches of a close of K volumes
+
+module _ (h : Held) (tape : List ℕ) (ok : Allowed (geometry h)) (K : ℕ)
+    (enough : Enough (length tape) (h .position) (16 * mapBlocks (geometry h) * K)) where
+  abbrev g₀ : Geometry
+  g₀ = geometry h
+
+  abbrev m : ℕ
+  m = mapBlocks g₀
+
+  abbrev at : ℕ → ℕ
+  at i = h .position + 16 * (m * i)
+
+  abbrev bytes : ℕ → List ℕ
+  bytes i = mapBytes (h .maps) g₀ (keyOf (h .session) i) tape (at i) i
+
+  left : (i : ℕ) → i < K → Enough (length tape) (at i) (16 * m)
+  left i l = omega (arith, mul-le-mul-left m l)
+
+  bytes-length : (i : ℕ) → i < K → length (bytes i) ≡ g₀ .b * m
+  bytes-length i l = mapBytes-length (h .maps) g₀ ok (keyOf (h .session) i) i tape (at i) (left i l)
+
+  pub mapPatches-ranges : (n : ℕ) → n ≤ K → rangesOf (mapPatches h tape n) ≡ mapRanges g₀ n
+  unfolding mapPatches
+  mapPatches-ranges zero l = refl
+  mapPatches-ranges (suc n) l =
+      ranges-++ (mapPatches h tape n) _
+      ∙ ap₂ (λ (a b : List Range). a ++ b) (mapPatches-ranges n (omega arith))
+      (ap (λ (x : ℕ). record { at = mapStart g₀ n; size = x } ∷ []) (bytes-length n l))
+
+  module _ (s : List ℕ) (long : length s ≡ deviceLength g₀) (low : K ≤ 15) where
+    map-fits : (i : ℕ) → i < 15 → mapStart g₀ i + g₀ .b * m ≤ deviceLength g₀
+    unfolding mapStart deviceLength headerBlocks
+    map-fits i l = omega (arith, mul-le-mul-left (g₀ .b) (mul-le-mul-right (1 + m) l))
+
+    maps-apart : (i n : ℕ) → i < n → mapStart g₀ i + g₀ .b * m ≤ mapStart g₀ n
+    unfolding mapStart
+    maps-apart i n l = omega (arith, mul-le-mul-left (g₀ .b) (mul-le-mul-right (1 + m) l))
+
+    -- The device after the maps of the first n volumes.
+    abbrev after : ℕ → List ℕ
+    after n = patched (mapPatches h tape n) s
+
+    after-suc : (n : ℕ) → after (suc n) ≡ overlay (after n) (mapStart g₀ n) (bytes n)
+    unfolding mapPatches patched
+    after-suc n = patched-++ (mapPatches h tape n) _ s
+
+    after-part : (n : ℕ) → n ≤ K → (i : ℕ) → i < n → (x u : ℕ) → x + u ≤ g₀ .b * m → part (mapStart g₀ i + x) u (after n) ≡ part x u (bytes i)
+    after-part zero k i l x u f = absurd (omega arith)
+    after-part (suc n) k i l x u f =
+        ap (part (mapStart g₀ i + x) u) (after-suc n)
+        ∙ ⊎-elim
+        (λ e. rw e (overlay-within (after n) (mapStart g₀ n) (bytes n) x u (omega (arith, bytes-length n k))
+        (omega (arith, bytes-length n k, patched-length (mapPatches h tape n) s, map-fits n (omega arith)))))
+        (λ e. overlay-before (after n) (mapStart g₀ n) (bytes n) (mapStart g₀ i + x) u (omega (arith, maps-apart i n e))
+        ∙ after-part n (omega arith) i e x u f)
+        (eq-or-lt-of-le (le-of-suc-le-suc l))
+
+    -- What no map covers stays.
+    pub mapPatches-elsewhere : (n : ℕ) → n ≤ K → (a w : ℕ) → ((v : ℕ) → v < n → Apart a w (mapStart g₀ v) (g₀ .b * m))
+        → part a w (after n) ≡ part a w s
+    unfolding mapPatches patched
+    mapPatches-elsewhere zero l a w out = refl
+    mapPatches-elsewhere (suc n) l a w out =
+        ap (part a w) (after-suc n)
+        ∙ overlay-apart (after n) (mapStart g₀ n) (bytes n) a w (g₀ .b * m) (bytes-length n l) (out n (omega arith))
+        ∙ mapPatches-elsewhere n (omega arith) a w (λ v k. out v (omega arith))
+
+    module _ (i t : ℕ) (li : i < K) (lt : t < m) where
+      abbrev key : List ℕ
+      key = keyOf (h .session) i
+
+      abbrev iv-at : List ℕ
+      iv-at = part (at i + 16 * t) 16 tape
+
+      abbrev header : List ℕ
+      header = headerOf g₀ (after K) i
+
+      -- A part of map block t, seen through the header.
+      header-part : (x u : ℕ) → x + u ≤ g₀ .b → part (g₀ .b * (1 + t) + x) u header ≡ part x u (mapBlock (h .maps) g₀ key i t iv-at)
+      unfolding mapStart
+      header-part x u f =
+          let q : headerStart g₀ i + (g₀ .b * (1 + t) + x) ≡ mapStart g₀ i + (t * g₀ .b + x) = omega arith in
+          part-part (after K) (headerStart g₀ i) (g₀ .b * (1 + m)) (g₀ .b * (1 + t) + x) u (omega (arith, mul-le-mul-left (g₀ .b) lt))
+          ∙ ap (λ (y : ℕ). part y u (after K)) q
+          ∙ after-part K (omega arith) i li (t * g₀ .b + x) u (omega (arith, mul-le-mul-left (g₀ .b) lt))
+          ∙ mapBytes-part (h .maps) g₀ ok key i tape (at i) (left i li) t lt x u f
+
+      iv-at-length : length iv-at ≡ 16
+      iv-at-length = iv-length (h .maps) g₀ ok key i tape (at i) (left i li) t lt
+
+      header-iv : part (g₀ .b * (1 + t)) 16 header ≡ iv-at
+      header-iv =
+          ap (λ (y : ℕ). part y 16 header) (sym (add-zero (g₀ .b * (1 + t))))
+          ∙ header-part 0 16 (omega (arith, perBlock-whole g₀ ok))
+          ∙ mapBlock-iv (h .maps) g₀ ok key i t iv-at iv-at-length
+
+      header-cipher : part (g₀ .b * (1 + t) + 16) (g₀ .b - 16) header ≡ ctr key iv-at (mapText (h .maps) g₀ i t)
+      header-cipher =
+          header-part 16 (g₀ .b - 16) (omega (arith, perBlock-whole g₀ ok))
+          ∙ mapBlock-cipher (h .maps) g₀ ok key i t iv-at iv-at-length
+
+    -- What is read back is what was held.
+    pub storedEntry-back : (i σ : ℕ) → i < K → σ < g₀ .p → EntryFits g₀ (entry (h .maps) g₀ i σ)
+        → storedEntry g₀ (keyOf (h .session) i) (headerOf g₀ (after K) i) σ ≡ entry (h .maps) g₀ i σ
+    unfolding storedEntry
+    storedEntry-back i σ li lσ fits =
+        let t = σ / perBlock g₀ in
+        let lt = mapBlocks-room g₀ ok σ lσ in
+        ap₂ (λ (x y : List ℕ). numberAt (4 * (σ % perBlock g₀)) (ctr (keyOf (h .session) i) x y)) (header-iv i t li lt) (header-cipher i t li lt)
+        ∙ ap (numberAt (4 * (σ % perBlock g₀))) (ctr-twice (keyOf (h .session) i) (iv-at i t li lt) (mapText (h .maps) g₀ i t))
+        ∙ mapText-entry (h .maps) g₀ ok i σ lσ fits

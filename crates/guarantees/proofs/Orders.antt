@@ -1,0 +1,154 @@
+-- The refusals of each call, in their order: the number that the model's chain gives is that of the first rule that holds.
+-- Assumes nothing.
+use Prim.Native.Nat.{ℕ, zero, suc, _+_, _-_, _*_, _/_, _<_}
+use mathlib.Core.Path.{_≡_, sym}
+use mathlib.Core.Logic.{_⊎_, inl, inr}
+use mathlib.Core.Bool.{not}
+use mathlib.Core.List.{List, [], _∷_, _++_}
+use native.Mathlib.Omega.{arith}
+use lib.ListN.{length, getD}
+use lib.Dec.{ltb, eqb}
+use Rattle.refusals.specs.Numbers.{refuse}
+use Rattle.model.specs.declared.Geometry.{Geometry}
+use Rattle.model.specs.declared.Session.{Session}
+use Rattle.model.specs.Geometry.{badGeometry, deviceLength, Allowed}
+use Rattle.model.specs.Session.{Held, geometry, unmapped, entryOf, badEntry, standing, asked, short}
+use Rattle.model.specs.Opening.{member, missing, openRefusal}
+use Rattle.model.specs.Read.{readRefusal}
+use Rattle.model.specs.Write.{writeRefusal}
+use Rattle.model.specs.Close.{anyBad, closeRefusal}
+use Rattle.model.specs.Conditions.{Usable, TablesFit, EntryFits, Enough}
+use Rattle.guarantees.specs.Rules.{Rule, rule, sliceAt, Names}
+use Rattle.guarantees.specs.Rules.{standingRules, askedRules, openRules, readRules, closeRules}
+use Rattle.guarantees.proofs.Reflects.{Reflects, fails, ltb-reflects, leb-reflects, eqb-reflects, bool-reflects, reflects-map, or-reflects}
+use Rattle.guarantees.proofs.Reflects.{Refutes, not-refutes, ltb-refutes, refutes-map, or-refutes, Below, below-zero-refutes, below-suc-refutes}
+use Rattle.guarantees.proofs.Chains.{Guards, refuse-guards, guards-map, guards-both, Leads, none, leads-refuse, leads-row}
+
+-- ---- the tests of the rows
+
+pub differ-guards : (n x y : ℕ) → Guards (refuse (not (eqb x y)) n) n (x ≡ y)
+differ-guards n x y = refuse-guards n (not-refutes (eqb-reflects x y))
+
+pub badGeometry-guards : (n : ℕ) (g : Geometry) → Guards (badGeometry n g) n (Allowed g)
+unfolding badGeometry
+badGeometry-guards n g =
+    guards-map
+    (λ p. record { block = p .0; slice-least = p .1 .0; slice-most = p .1 .1 .0; slices-least = p .1 .1 .1 .0; slices-most = p .1 .1 .1 .1 })
+    (λ a. (a .block, (a .slice-least, (a .slice-most, (a .slices-least, a .slices-most)))))
+    (guards-both (refuse-guards n (not-refutes (or-reflects (eqb-reflects (g .b) 1024) (eqb-reflects (g .b) 4096))))
+    (guards-both (refuse-guards n (ltb-refutes (g .s) 1))
+    (guards-both (refuse-guards n (ltb-refutes (g .b / 16) (g .s)))
+    (guards-both (refuse-guards n (ltb-refutes (g .p) 1))
+    (refuse-guards n (ltb-refutes 4096 (g .p)))))))
+
+pub badEntry-refutes : (g : Geometry) (x : ℕ) → Refutes (EntryFits g x) (badEntry (g .p) x)
+badEntry-refutes g x = not-refutes (or-reflects (eqb-reflects x unmapped) (ltb-reflects x (g .p)))
+
+pub short-refutes : (tape position need : ℕ) → Refutes (Enough tape position need) (short tape position need)
+unfolding short
+short-refutes tape position need =
+    refutes-map (λ p. omega arith) (λ e. (omega arith, omega arith)) (or-refutes (ltb-refutes tape position) (ltb-refutes (tape - position) need))
+
+-- ---- the permutation, and the entries of a close
+
+-- Some place of a permutation names slice ψ.
+abbrev Named : List ℕ → ℕ → Type 0
+Named perm ψ = (n : ℕ) × (n < length perm) × (sliceAt perm n ≡ ψ)
+
+member-reflects : (ψ : ℕ) (perm : List ℕ) → Reflects (Named perm ψ) (member ψ perm)
+member-reflects ψ [] = fails (λ k. absurd (omega (arith, k .1)))
+member-reflects ψ (φ ∷ perm) = reflects-map to from (or-reflects (eqb-reflects ψ φ) (member-reflects ψ perm))
+  where
+    to : (ψ ≡ φ) ⊎ Named perm ψ → Named (φ ∷ perm) ψ
+    to (inl e) = (0, omega arith, sym e)
+    to (inr k) = (suc (k .0), omega (arith, k .1), k .2)
+
+    at : (n : ℕ) → n < length (φ ∷ perm) → sliceAt (φ ∷ perm) n ≡ ψ → (ψ ≡ φ) ⊎ Named perm ψ
+    at zero l e = inl (sym e)
+    at (suc n) l e = inr (n, omega arith, e)
+
+    from : Named (φ ∷ perm) ψ → (ψ ≡ φ) ⊎ Named perm ψ
+    from k = at (k .0) (k .1) (k .2)
+
+missing-refutes : (n : ℕ) (perm : List ℕ) → Refutes (Below n (Named perm)) (missing n perm)
+missing-refutes zero perm = below-zero-refutes (Named perm)
+missing-refutes (suc n) perm = below-suc-refutes (Named perm) n (missing-refutes n perm) (not-refutes (member-reflects n perm))
+
+pub anyBad-refutes : (g : Geometry) (maps : List ℕ) (n : ℕ) → Refutes (Below n (λ m. EntryFits g (getD maps m 0))) (anyBad (g .p) maps n)
+unfolding anyBad
+anyBad-refutes g maps zero = below-zero-refutes (λ m. EntryFits g (getD maps m 0))
+anyBad-refutes g maps (suc n) =
+    below-suc-refutes (λ m. EntryFits g (getD maps m 0)) n (anyBad-refutes g maps n) (badEntry-refutes g (getD maps n 0))
+
+-- ---- the orders
+
+pub usable-guards : (s : Session) → Guards (λ rest. refuse (not (s .opened)) 20 (badGeometry 20 (s .geometry) (refuse (ltb 14 (s .k)) 20 rest))) 20 (Usable s)
+usable-guards s =
+    guards-map (λ p. record { opened = p .0; allowed = p .1 .0; top = p .1 .1 }) (λ u. (u .opened, (u .allowed, u .top)))
+    (guards-both (refuse-guards 20 (not-refutes (bool-reflects (s .opened))))
+    (guards-both (badGeometry-guards 20 (s .geometry))
+    (refuse-guards 20 (ltb-refutes 14 (s .k)))))
+
+pub tables-guards : (g : Geometry) (maps owners : ℕ)
+    → Guards (λ rest. refuse (not (eqb maps (15 * g .p))) 4 (refuse (not (eqb owners (g .p))) 4 rest)) 4 (TablesFit g maps owners)
+tables-guards g maps owners = guards-both (differ-guards 4 maps (15 * g .p)) (differ-guards 4 owners (g .p))
+
+pub names-guards : (p : ℕ) (perm : List ℕ) → Guards (λ rest. refuse (not (eqb (length perm) p)) 5 (refuse (missing p perm) 5 rest)) 5 (Names p perm)
+names-guards p perm =
+    guards-map (λ k. record { places = k .0; each = k .1 }) (λ k. (k .places, k .each))
+    (guards-both (differ-guards 5 (length perm) p) (refuse-guards 5 (missing-refutes p perm)))
+
+standing-leads : (device maps owners : ℕ) (s : Session) {rs : List Rule} {rest : ℕ} → Leads rs rest 0
+    → Leads (standingRules device maps owners s ++ rs) (standing device maps owners s rest) 0
+unfolding standing
+standing-leads device maps owners s q =
+    leads-row (usable-guards s)
+    (leads-row (differ-guards 2 device (deviceLength (s .geometry)))
+    (leads-row (tables-guards (s .geometry) maps owners)
+    q))
+
+asked-leads : (maps : List ℕ) (s : Session) (i a len : ℕ) → Leads (askedRules maps s i a len) (asked maps s i a len) 0
+unfolding asked
+asked-leads maps s i a len =
+    leads-refuse 11 (ltb-reflects (s .k) i)
+    (leads-refuse 12 (leb-reflects (s .geometry .p * s .geometry .s) a)
+    (leads-row (differ-guards 13 len (s .geometry .b))
+    (leads-row (refuse-guards 9 (badEntry-refutes (s .geometry) (entryOf maps (s .geometry) i a)))
+    none)))
+
+pub open-leads : (g : Geometry) (device key maps owners : ℕ) (perm : List ℕ)
+    → Leads (openRules g device key maps owners perm) (openRefusal g device key maps owners perm) 0
+unfolding openRefusal
+open-leads g device key maps owners perm =
+    leads-row (badGeometry-guards 1 g)
+    (leads-row (differ-guards 2 device (deviceLength g))
+    (leads-row (differ-guards 3 key 32)
+    (leads-row (tables-guards g maps owners)
+    (leads-row (names-guards (g .p) perm)
+    none))))
+
+pub read-leads : (device : ℕ) (maps owners : List ℕ) (s : Session) (i a room : ℕ)
+    → Leads (readRules device maps owners s i a room) (readRefusal device maps owners s i a room) 0
+unfolding readRefusal
+read-leads device maps owners s i a room = standing-leads device (length maps) (length owners) s (asked-leads maps s i a room)
+
+-- The rules of a write that come before the entry is looked up, for a text of len bytes and a permutation of so many places.
+abbrev pub earlyRules : (device : ℕ) → Held → (i a len places : ℕ) → List Rule
+earlyRules device h i a len places =
+    standingRules device (length (h .maps)) (length (h .owners)) (h .session)
+    ++ (rule 5 (places ≡ geometry h .p → ⊥) ∷ askedRules (h .maps) (h .session) i a len)
+
+pub write-leads : (device : ℕ) (h : Held) (i a len places : ℕ)
+    → Leads (earlyRules device h i a len places) (writeRefusal device (h .maps) (h .owners) (h .session) i a len places) 0
+unfolding writeRefusal
+write-leads device h i a len places =
+    standing-leads device (length (h .maps)) (length (h .owners)) (h .session)
+    (leads-row (differ-guards 5 places (geometry h .p)) (asked-leads (h .maps) (h .session) i a len))
+
+pub close-leads : (device : ℕ) (h : Held) (tape : ℕ) → Leads (closeRules device h tape) (closeRefusal device h tape) 0
+unfolding closeRefusal
+close-leads device h tape =
+    standing-leads device (length (h .maps)) (length (h .owners)) (h .session)
+    (leads-row (refuse-guards 9 (anyBad-refutes (geometry h) (h .maps) ((h .session .k + 1) * geometry h .p)))
+    (leads-row (refuse-guards 21 (short-refutes tape (h .position) _))
+    none))

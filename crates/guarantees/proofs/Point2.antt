@@ -1,0 +1,353 @@
+-- Point 2: every open volume is an array of blocks, and every answer is the one due, over every list of calls. Assumes nothing.
+use Prim.Native.Nat.{ℕ, suc, _+_, _*_, _/_, _%_, _≤_, _<_}
+use mathlib.Core.Path.{_≡_, refl, sym, ap, _∙_}
+use mathlib.Core.List.{List, [], _∷_}
+use mathlib.Core.Bool.{true}
+use mathlib.Core.Logic.{_⊎_, inl, inr, ⊎-elim}
+use native.Mathlib.Omega.{arith}
+use native.Mathlib.Nat.{sub-zero, div-add-mod', mod-lt, div-lt-iff-lt-mul}
+use lib.ListN.{length, getD, length-set}
+use borrow.Author.Tests.{eq-eqb, ne-eqb}
+use Rattle.refusals.specs.Numbers.{refuse}
+use Rattle.model.specs.declared.Geometry.{Geometry}
+use Rattle.model.specs.Parts.{part, overlay, patched}
+use Rattle.model.specs.Geometry.{sliceStart, ivStart, blockStart, Allowed}
+use Rattle.model.specs.Session.{Held, Outcome, geometry, keyOf, blockCount, sliceOf, offsetOf, unmapped, asked, idle}
+use Rattle.model.specs.Read.{deciphered, blockOf, readRefusal, readModel, findModel}
+use Rattle.model.specs.Write.{WriteResult, rewritten, claimed, claimedBytes, writeRefusal, writeModel}
+use Rattle.model.specs.Close.{CloseResult, closeModel}
+use Rattle.guarantees.specs.Runs.{State, Call, Reading, Finding, Writing, Closing, Writes, outcome, next, events, final, left}
+use Rattle.model.specs.Conditions.{Usable, EntryFits, Enough}
+use Rattle.guarantees.specs.Rules.{closeRules}
+use Rattle.guarantees.specs.Arrays.{Arrays, put, arraysAfter, arraysAfterAll, heldEntry, Fits, Unfit, ReadDue, FindDue, found, nowhere}
+use Rattle.guarantees.specs.Arrays.{WriteDue, rewrite-short, claim-short, no-slice, full, CloseDue, done, close-short, Due, AllDue}
+use Rattle.model.proofs.Parts.{part-length, overlay-before, overlay-length}
+use Rattle.guarantees.proofs.Reflects.{ltb-reflects, eqb-reflects, bool-reflects, reflects-stable, choose-reflects, equal}
+use Rattle.guarantees.proofs.Chains.{Leads, here, later}
+use Rattle.guarantees.proofs.Orders.{earlyRules, write-leads, close-leads}
+use Rattle.guarantees.proofs.Patches.{patched-length}
+use Rattle.guarantees.proofs.Places.{slice-first}
+use Rattle.guarantees.proofs.Sound.{Sound, OpenVolume, tableEntry}
+use Rattle.guarantees.proofs.Blocks.{offsetOf-lt, sliceOf-lt, same-address, deciphered-unmapped, restored-here, restored-other, claimedText}
+use Rattle.guarantees.proofs.Blocks.{filled-here, filled-other}
+use Rattle.guarantees.proofs.Cases.{unless-cases, Stands, Asked, readRefusalOf, readRefusal-none, readRefusal-served, writeRefusalOf}
+use Rattle.guarantees.proofs.Cases.{Writable, write-cases, write-stores, close-cases}
+use Rattle.guarantees.proofs.Claims.{claimed-entry, claimed-entry-other, claimed-new, claimed-sound}
+
+-- ---- one block replaced
+
+put-here : (arrays : Arrays) (i a : ℕ) (text : List ℕ) → put arrays i a text i a ≡ text
+put-here arrays i a text = rw (eq-eqb i i refl, eq-eqb a a refl)
+
+put-other : (arrays : Arrays) (i a : ℕ) (text : List ℕ) (j b : ℕ) → (j ≡ i → b ≡ a → ⊥) → put arrays i a text j b ≡ arrays j b
+put-other arrays i a text j b ne = ⊎-elim (λ e. rw (eq-eqb j i e, ne-eqb b a (ne e)) refl) (λ d. rw (ne-eqb j i d) refl) (equal j i)
+
+-- ---- what a list of calls keeps while the session is open
+
+-- What the device deciphers to by the tables held.
+abbrev pub arraysOf : State → Arrays
+arraysOf st = blockOf (st .device) (st .held .maps) (st .held .session)
+
+-- The session stays, the tables are sound, cells and headers stay but for the maps, and the arrays are what the device
+-- deciphers to.
+pub record Open (first : State) (arrays : Arrays) (st : State) : Type 0 where
+  pub stands : Stands (length (st .device)) (st .held)
+  pub sound : Sound (st .held)
+  pub session : st .held .session ≡ first .held .session
+  pub header : (a n : ℕ) → a + n ≤ sliceStart (geometry (st .held)) 0 → part a n (st .device) ≡ part a n (first .device)
+  pub holds : (j b : ℕ) → OpenVolume (st .held) j → b < blockCount (geometry (st .held)) j → arrays j b ≡ arraysOf st j b
+
+abbrev pub Kept : State → Arrays → State → Type 0
+Kept first arrays st = st .held .session .opened ≡ true → Open first arrays st
+
+module _ (first : State) (device : List ℕ) (h : Held) (i a : ℕ) (text perm tape : List ℕ) (arrays : Arrays)
+    (kept : Kept first arrays (record { device = device; held = h })) where
+  abbrev g : Geometry
+  g = geometry h
+
+  abbrev σ : ℕ
+  σ = sliceOf g a
+
+  abbrev j₀ : ℕ
+  j₀ = offsetOf g a
+
+  abbrev key : ℕ → List ℕ
+  key i = keyOf (h .session) i
+
+  abbrev Keeps : Outcome WriteResult → Type 0
+  Keeps o = Kept first (arraysAfter arrays (Writes i a text perm tape (o .answer))) (left device o)
+
+  none : (number count : ℕ) → Keeps (idle h (WriteResult.Refused number count))
+  unfolding arraysAfter patched
+  none number count = kept
+
+  module _ (w : Writable (length device) h i a text perm) where
+    op : Open first arrays (record { device = device; held = h })
+    op = kept (w .stands .usable .opened)
+
+    ok : Allowed g
+    ok = w .stands .usable .allowed
+
+    hj : j₀ < g .s
+    hj = offsetOf-lt g ok a
+
+    hσ : σ < g .p
+    hσ = sliceOf-lt g ok i a (w .asked .address)
+
+    rewrites : heldEntry h i a < g .p → Enough (length tape) (h .position) 16 → Keeps (rewritten h i (heldEntry h i a) j₀ text tape)
+    unfolding arraysAfter patched ivStart blockStart
+    rewrites l enough live =
+        record {
+          stands =
+              record { usable = w .stands .usable; long = patched-length (o .patches) device ∙ w .stands .long; tables = w .stands .tables };
+          sound = record { whole = op .sound .whole; once = op .sound .once; taken = op .sound .taken };
+          session = op .session;
+          header = λ x n fits.
+              overlay-before _ _ _ x n (omega (arith, slice-first g (heldEntry h i a)))
+              ∙ overlay-before device _ _ x n (omega (arith, slice-first g (heldEntry h i a)))
+              ∙ op .header x n fits;
+          holds = λ j b oj hb. ⊎-elim (here j b) (other j b oj hb) (both j b);
+        }
+      where
+        o : Outcome WriteResult
+        o = rewritten h i (heldEntry h i a) j₀ text tape
+
+        iv : List ℕ
+        iv = part (h .position) 16 tape
+
+        ivl : length iv ≡ 16
+        ivl = part-length tape (h .position) 16 enough
+
+        both : (j b : ℕ) → ((j ≡ i) × (b ≡ a)) ⊎ (j ≡ i → b ≡ a → ⊥)
+        both j b = ⊎-elim (λ e. ⊎-elim (λ f. inl (e, f)) (λ f. inr (λ p q. f q)) (equal b a)) (λ e. inr (λ p q. e p)) (equal j i)
+
+        here : (j b : ℕ) → (j ≡ i) × (b ≡ a) → put arrays i a text j b ≡ arraysOf (left device o) j b
+        here j b e =
+            rw (e .0, e .1) (put-here arrays i a text
+            ∙ sym (restored-here g ok device (key i) iv text (heldEntry h i a) j₀ l hj (w .stands .long) ivl (w .asked .size)))
+
+        other : (j b : ℕ) → OpenVolume h j → b < blockCount g j → (j ≡ i → b ≡ a → ⊥) → put arrays i a text j b ≡ arraysOf (left device o) j b
+        other j b oj hb ne =
+            put-other arrays i a text j b ne
+            ∙ op .holds j b oj hb
+            ∙ sym (restored-other g ok device (key i) iv text (heldEntry h i a) j₀ l hj (w .stands .long) ivl (w .asked .size)
+            (key j) (heldEntry h j b) (offsetOf g b) (offsetOf-lt g ok b)
+            (λ e f. let q = op .sound .once i σ j (sliceOf g b) (w .asked .volume) oj hσ (sliceOf-lt g ok j b hb) l (sym e) in
+            ne (sym (q .0)) (same-address g b a (sym (q .1)) f)))
+
+    module _ (ψ place : ℕ) (un : heldEntry h i a ≡ unmapped) (hψ : ψ < g .p) (free : getD (h .owners) ψ 0 ≡ 0)
+        (enough : Enough (length tape) (h .position) (g .b)) where
+      abbrev o : Outcome WriteResult
+      o = claimed h i σ j₀ ψ place text tape
+
+      abbrev ivs : List ℕ
+      ivs = part (h .position) (g .b) tape
+
+      abbrev device′ : List ℕ
+      device′ = overlay device (sliceStart g ψ) (claimedBytes (g .b) (g .s) (key i) ivs j₀ text)
+
+      ivsl : length ivs ≡ g .b
+      ivsl = part-length tape (h .position) (g .b) enough
+
+      -- Block n of the claimed slice.
+      fresh : (n : ℕ) → n < g .s → deciphered g (key i) ψ n device′ ≡ claimedText g text j₀ n
+      fresh = filled-here g (key i) ivs text j₀ ivsl (w .asked .size) ok device (w .stands .long) ψ hψ
+
+      old : (key′ : List ℕ) (φ n : ℕ) → n < g .s → (φ ≡ ψ → ⊥) → deciphered g key′ φ n device′ ≡ deciphered g key′ φ n device
+      old = filled-other g (key i) ivs text j₀ ivsl (w .asked .size) ok device (w .stands .long) ψ hψ
+
+      entry-now : tableEntry (o .held) i σ ≡ ψ
+      entry-now = claimed-entry (length device) h i σ j₀ ψ place text tape (w .stands) (w .asked .volume) hσ
+
+      large : g .p ≤ unmapped
+      large = omega (arith, ok .slices-most)
+
+      now-is : (j b : ℕ) → OpenVolume h j → b < blockCount g j
+          → put arrays i a text j b ≡ deciphered g (key j) (tableEntry (o .held) j (sliceOf g b)) (offsetOf g b) device′
+      now-is j b oj hb =
+          ⊎-elim (λ e. ⊎-elim (mine e) (λ d. others (λ p q. d q)) (equal (sliceOf g b) σ)) (λ d. others (λ p q. d p)) (equal j i)
+        where
+          hb′ : sliceOf g b < g .p
+          hb′ = sliceOf-lt g ok j b hb
+
+          -- Another logical slice.
+          others : (j ≡ i → sliceOf g b ≡ σ → ⊥)
+              → put arrays i a text j b ≡ deciphered g (key j) (tableEntry (o .held) j (sliceOf g b)) (offsetOf g b) device′
+          others ne =
+              put-other arrays i a text j b (λ p q. ne p (ap (sliceOf g) q))
+              ∙ op .holds j b oj hb
+              ∙ rw (claimed-entry-other (length device) h i σ j₀ ψ place text tape (w .stands) (w .asked .volume) hσ j (sliceOf g b) hb′ ne)
+              (sym (old (key j) (heldEntry h j b) (offsetOf g b) (offsetOf-lt g ok b)
+              (claimed-new (length device) h i σ j₀ ψ place text tape (w .stands) (w .asked .volume) hσ (op .sound) hψ free j (sliceOf g b) oj hb′)))
+
+          -- The claimed one.
+          mine : j ≡ i → sliceOf g b ≡ σ
+              → put arrays i a text j b ≡ deciphered g (key j) (tableEntry (o .held) j (sliceOf g b)) (offsetOf g b) device′
+          mine e f =
+              ⊎-elim
+              (λ q. let b≡a : b ≡ a = same-address g b a f q in
+              rw (e, b≡a) (put-here arrays i a text ∙ sym (rw entry-now (fresh j₀ hj ∙ rw (eq-eqb j₀ j₀ refl) refl))))
+              (λ d.
+              put-other arrays i a text j b (λ p q. d (ap (offsetOf g) q))
+              ∙ op .holds j b oj hb
+              ∙ deciphered-unmapped g (key j) (heldEntry h j b) (offsetOf g b) device (rw (e, f, un) large)
+              ∙ sym (rw (e, f, entry-now) (fresh (offsetOf g b) (offsetOf-lt g ok b) ∙ rw (ne-eqb (offsetOf g b) j₀ d) refl)))
+              (equal (offsetOf g b) j₀)
+
+      claims : Keeps o
+      unfolding arraysAfter patched
+      claims live =
+          record {
+            stands =
+                record {
+                  usable = w .stands .usable;
+                  long = overlay-length device _ _ ∙ w .stands .long;
+                  tables = (length-set (h .maps) _ ψ ∙ w .stands .tables .0, length-set (h .owners) ψ (i + 1) ∙ w .stands .tables .1);
+                };
+            sound = claimed-sound (length device) h i σ j₀ ψ place text tape (w .stands) (w .asked .volume) hσ (op .sound) hψ free;
+            session = op .session;
+            header = λ x n fits. overlay-before device (sliceStart g ψ) _ x n (omega (arith, slice-first g ψ)) ∙ op .header x n fits;
+            holds = now-is;
+          }
+
+  -- A write keeps what the list needs, whatever it answers.
+  write-keeps : Keeps (writeModel (length device) h i a text perm tape)
+  write-keeps = write-stores (length device) h i a text perm tape Keeps none rewrites (λ w u ψ place. claims w ψ place u)
+
+close-keeps : (first : State) (device : List ℕ) (h : Held) (tape : List ℕ) (arrays : Arrays)
+    → Kept first arrays (record { device = device; held = h }) → Kept first arrays (left device (closeModel (length device) h tape))
+unfolding patched
+close-keeps first device h tape arrays kept =
+    close-cases (length device) h tape (λ (o : Outcome CloseResult). Kept first arrays (left device o)) (λ r e. kept)
+    (λ st enough live. let z : _≡_ {A = ℕ} 0 1 = cc in absurd (omega arith))
+
+-- ---- the answers that are due
+
+module _ (first : State) (st : State) (arrays : Arrays) (kept : Kept first arrays st) where
+  abbrev h₀ : Held
+  h₀ = st .held
+
+  abbrev g₀ : Geometry
+  g₀ = geometry h₀
+
+  abbrev n : ℕ
+  n = length (st .device)
+
+  -- A request that fits is not refused.
+  fits-asked : (m i a len : ℕ) → Fits h₀ m i a len → Stands n h₀ × Asked h₀ i a len
+  fits-asked m i a len f =
+      let op = kept (f .opened) in (
+        op .stands,
+        record {
+          volume = f .volume;
+          address = f .address;
+          size = f .size;
+          mapped = op .sound .whole i (sliceOf g₀ a) (f .volume) (sliceOf-lt g₀ (op .stands .usable .allowed) i a (f .address));
+        },
+      )
+
+  asked-fits : (m i a len : ℕ) → Stands n h₀ → m ≡ g₀ .p → Asked h₀ i a len → Fits h₀ m i a len
+  asked-fits m i a len s q w = record { opened = s .usable .opened; places = q; volume = w .volume; address = w .address; size = w .size }
+
+  -- A session that is not unusable is open.
+  live : ((Usable (h₀ .session) → ⊥) → ⊥) → h₀ .session .opened ≡ true
+  live u = reflects-stable (bool-reflects (h₀ .session .opened)) (λ shut. u (λ s. shut (s .opened)))
+
+  -- One that is refused fails a condition: where the session is open, it stands, and its entries fit.
+  module _ (m i a len r : ℕ) where
+    write-unfit : writeRefusalOf n h₀ i a len m ≡ suc r → Unfit h₀ m i a len (suc r)
+    write-unfit e = go (rw e at (write-leads n h₀ i a len m))
+      where
+        many : ((m ≡ g₀ .p → ⊥) → ⊥) → m ≡ g₀ .p
+        many = reflects-stable (eqb-reflects m (g₀ .p))
+
+        go : Leads (earlyRules n h₀ i a len m) (suc r) 0 → Unfit h₀ m i a len (suc r)
+        go (here f q c) = rw q (Unfit.shut (λ o. f (kept o .stands .usable)))
+        go (later u (here f q c)) = absurd (f (kept (live u) .stands .long))
+        go (later u (later l (here f q c))) = absurd (f (kept (live u) .stands .tables))
+        go (later u (later l (later t (here f q c)))) = rw q (Unfit.places (live u) f)
+        go (later u (later l (later t (later p (here v q c))))) = rw q (Unfit.volume (live u) (many p) v)
+        go (later u (later l (later t (later p (later v (here w q c)))))) = rw q (Unfit.address (live u) (many p) (omega arith) w)
+        go (later u (later l (later t (later p (later v (later w (here f q c))))))) =
+            rw q (Unfit.size (live u) (many p) (omega arith) (omega arith) f)
+        go (later u (later l (later t (later p (later v (later w (later s (here f q c)))))))) =
+            let op = kept (live u) in
+            absurd (f (op .sound .whole i (sliceOf g₀ a) (omega arith) (sliceOf-lt g₀ (op .stands .usable .allowed) i a (omega arith))))
+
+  -- A read is refused as a write with a permutation of P places.
+  read-unfit : (i a len r : ℕ) → readRefusalOf n h₀ i a len ≡ suc r → Unfit h₀ (g₀ .p) i a len (suc r)
+  unfolding readRefusal writeRefusal refuse
+  read-unfit i a len r e = write-unfit (g₀ .p) i a len r (rw (eq-eqb (g₀ .p) (g₀ .p) refl) e)
+
+  read-fits : (i a len : ℕ) → readRefusalOf n h₀ i a len ≡ 0 → Fits h₀ (g₀ .p) i a len
+  read-fits i a len e = let s = readRefusal-none h₀ i a len n e in asked-fits (g₀ .p) i a len (s .0) refl (s .1)
+
+  read-due : (i a room : ℕ) → ReadDue arrays h₀ i a room (readModel (st .device) (h₀ .maps) (h₀ .owners) (h₀ .session) i a room)
+  unfolding readModel
+  read-due i a room =
+      unless-cases (ReadDue arrays h₀ i a room) _ _ _ (λ r e. ReadDue.refused (suc r) (read-unfit i a room r e))
+      (λ e. let f = read-fits i a room e in rw (← kept (f .opened) .holds i a (f .volume) (f .address)) (ReadDue.filled f))
+
+  find-due : (i a : ℕ) → FindDue (st .device) h₀ i a (findModel (st .device) (h₀ .maps) (h₀ .owners) (h₀ .session) i a)
+  unfolding findModel
+  find-due i a =
+      unless-cases (FindDue (st .device) h₀ i a) _ _ _
+      (λ r e. nowhere (λ f. let q = fits-asked (g₀ .p) i a (g₀ .b) f in
+      let z : 0 ≡ suc r = sym (readRefusal-served h₀ i a (g₀ .b) n (q .0) (q .1)) ∙ e in
+      absurd (omega arith)))
+      (λ e. let f = read-fits i a (g₀ .b) e in
+      choose-reflects (FindDue (st .device) h₀ i a) _ _ (ltb-reflects (heldEntry h₀ i a) (g₀ .p)) (found f)
+      (λ out. nowhere (λ f. ⊎-elim (λ u. u) (λ l. absurd (out l)) (fits-asked (g₀ .p) i a (g₀ .b) f .1 .mapped))))
+
+  write-due : (i a : ℕ) (text perm tape : List ℕ) → WriteDue h₀ i a text perm tape (writeModel n h₀ i a text perm tape .answer)
+  write-due i a text perm tape =
+      write-cases n h₀ i a text perm tape (λ (o : Outcome WriteResult). WriteDue h₀ i a text perm tape (o .answer))
+      (λ r e. WriteDue.refused (suc r) (write-unfit (length perm) i a (length text) r e))
+      (λ w l s. rewrite-short (fit w) l s)
+      (λ w l s. WriteDue.rewritten (fit w) l s)
+      (λ w u place f. rw sub-zero (no-slice (fit w) u place f))
+      (λ w u f. rw sub-zero (full (fit w) u f))
+      (λ w u place f s. rw sub-zero (claim-short (fit w) u place f s))
+      (λ w u ψ place f q s. rw (← q, sub-zero) (WriteDue.claimed (fit w) u place f s))
+    where
+      fit : Writable n h₀ i a text perm → Fits h₀ (length perm) i a (length text)
+      fit w = asked-fits (length perm) i a (length text) (w .stands) (w .places) (w .asked)
+
+  close-due : (tape : List ℕ) → CloseDue h₀ tape (closeModel n h₀ tape .answer)
+  close-due tape =
+      close-cases n h₀ tape (λ (o : Outcome CloseResult). CloseDue h₀ tape (o .answer))
+      (λ r e. go r (rw e at (close-leads n h₀ (length tape)))) (λ s enough. done (s .usable .opened) enough)
+    where
+      entries-fit : h₀ .session .opened ≡ true → (m : ℕ) → m < (h₀ .session .k + 1) * g₀ .p → EntryFits g₀ (getD (h₀ .maps) m 0)
+      entries-fit o m l =
+          let op = kept o in
+          let some = op .stands .usable .allowed .slices-least in
+          let row : m / g₀ .p < h₀ .session .k + 1 = div-lt-iff-lt-mul some .1 l in
+          rw (div-add-mod' m (g₀ .p)) at (op .sound .whole (m / g₀ .p) (m % g₀ .p) (omega arith) (mod-lt m some))
+
+      go : (r : ℕ) → Leads (closeRules n h₀ (length tape)) (suc r) 0 → CloseDue h₀ tape (CloseResult.Refused (suc r))
+      go r (here f q c) = rw q (CloseDue.shut (λ o. f (kept o .stands .usable)))
+      go r (later u (here f q c)) = absurd (f (kept (live u) .stands .long))
+      go r (later u (later l (here f q c))) = absurd (f (kept (live u) .stands .tables))
+      go r (later u (later l (later t (here f q c)))) = absurd (f (entries-fit (live u)))
+      go r (later u (later l (later t (later e (here lacking q c))))) = rw q (close-short (live u) lacking)
+
+-- ---- the list
+
+call-due : (first : State) (st : State) (arrays : Arrays) → Kept first arrays st → (c : Call)
+    → Due arrays st (outcome st c .answer) × Kept first (arraysAfter arrays (outcome st c .answer)) (next st c)
+unfolding Due outcome arraysAfter patched
+call-due first st arrays kept (Reading i a room) = (read-due first st arrays kept i a room, kept)
+call-due first st arrays kept (Finding i a) = (find-due first st arrays kept i a, kept)
+call-due first st arrays kept (Writing i a text perm tape) =
+    (write-due first st arrays kept i a text perm tape, write-keeps first (st .device) (st .held) i a text perm tape arrays kept)
+call-due first st arrays kept (Closing tape) = (close-due first st arrays kept tape, close-keeps first (st .device) (st .held) tape arrays kept)
+
+pub run-due : (first : State) (cs : List Call) (st : State) (arrays : Arrays) → Kept first arrays st
+    → AllDue arrays st cs × Kept first (arraysAfterAll arrays (events st cs)) (final st cs)
+unfolding AllDue arraysAfterAll events final
+run-due first [] st arrays kept = (tt, kept)
+run-due first (c ∷ cs) st arrays kept =
+    let s = call-due first st arrays kept c in
+    let r = run-due first cs (next st c) (arraysAfter arrays (outcome st c .answer)) (s .1) in
+    ((s .0, r .0), r .1)

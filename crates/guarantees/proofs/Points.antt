@@ -1,0 +1,154 @@
+-- Points 2 and 3, from a served opening on. Assumes nothing.
+use Prim.Native.Nat.{ℕ, _+_, _-_, _≤_, _<_}
+use mathlib.Core.Path.{_≡_, refl, sym, ap, _∙_, subst}
+use mathlib.Core.List.{List}
+use native.Mathlib.Omega.{arith}
+use lib.ListN.{length, getD}
+use lib.Seq.{getD-take, getD-drop}
+use Rattle.model.specs.declared.Geometry.{Geometry}
+use Rattle.model.specs.Parts.{part}
+use Rattle.model.specs.Geometry.{headerOf, sliceStart, sliceSize}
+use Rattle.model.specs.Session.{geometry, keyOf, sliceOf, offsetOf}
+use Rattle.model.specs.Opening.{OpenOutcome, storedEntry}
+use Rattle.model.specs.Read.{deciphered}
+use Rattle.guarantees.specs.Runs.{State, Call, final, events, allPlaces, Within}
+use Rattle.guarantees.specs.Arrays.{Arrays}
+use Rattle.guarantees.specs.Openings.{AllUnlocked}
+use Rattle.guarantees.specs.Points.{Handed, Lent, opens, holds, begin, mapEntry, firstArrays, Opens, Run, Agree, EqualRuns, Points23}
+use Rattle.guarantees.proofs.Sound.{tableEntry}
+use Rattle.guarantees.proofs.Blocks.{sliceOf-lt}
+use Rattle.guarantees.proofs.Opened.{holding, Served, served, served-is, openedBy, served-sound, served-stands, served-opens, served-entry}
+use Rattle.guarantees.proofs.Opened.{served-taken, served-cell, served-same}
+use Rattle.guarantees.proofs.Keys.{served-keys}
+use Rattle.guarantees.proofs.Point2.{Open, Kept, run-due}
+use Rattle.guarantees.proofs.Stored.{run-stored, run-held, run-kept}
+use Rattle.guarantees.proofs.Again.{run-again}
+use Rattle.guarantees.proofs.Point3.{SameSlice, Alike, run-alike}
+
+-- ---- what holds right after the opening
+
+module _ (s : List ℕ) (x : Handed) (l : Lent) (k : ℕ) (sv : Served s x l k) where
+  abbrev g : Geometry
+  g = x .geometry
+
+  is : opens s x l ≡ openedBy s x l k sv
+  is = served-is s x l k sv
+
+  -- Entries, arrays and state as an opening's outcome gives them.
+  abbrev entriesBy : OpenOutcome → ℕ → ℕ → ℕ
+  entriesBy o i σ = storedEntry g (keyOf (o .session) i) (headerOf g s i) σ
+
+  abbrev arraysBy : OpenOutcome → Arrays
+  arraysBy o i a = deciphered g (keyOf (o .session) i) (entriesBy o i (sliceOf g a)) (offsetOf g a) s
+
+  abbrev stateBy : OpenOutcome → State
+  stateBy o = record { device = s; held = holding (x .position) o }
+
+  -- The table has what the map on the device has.
+  table-is : (i σ : ℕ) → i ≤ k → σ < g .p → mapEntry s x l i σ ≡ tableEntry (holds s x l) i σ
+  table-is i σ hi hσ =
+      subst (λ (o : OpenOutcome). entriesBy o i σ ≡ tableEntry (holding (x .position) o) i σ) (sym is) (served-entry s x l k sv i σ hi hσ)
+
+  begins : Kept (begin s x l) (firstArrays s x l) (begin s x l)
+  begins live =
+      subst (λ (o : OpenOutcome). Open (stateBy o) (arraysBy o) (stateBy o)) (sym is)
+      (record {
+        stands = served-stands s x l k sv;
+        sound = served-sound s x l k sv;
+        session = refl;
+        header = λ a n fits. refl;
+        holds = λ j b oj hb.
+            ap (λ (ψ : ℕ). deciphered g (keyOf (openedBy s x l k sv .session) j) ψ (offsetOf g b) s)
+            (served-entry s x l k sv j (sliceOf g b) oj (sliceOf-lt g (served-taken s x l k sv .good) j b hb));
+      })
+
+  geometry-is : geometry (holds s x l) ≡ g
+  geometry-is = ap (λ (o : OpenOutcome). o .session .geometry) is
+
+  top-is : holds s x l .session .k ≡ k
+  top-is = ap (λ (o : OpenOutcome). o .session .k) is
+
+  run : (cs : List Call) → Run s x l k cs
+  run cs =
+      let r = run-due (begin s x l) cs (begin s x l) (firstArrays s x l) begins in
+      record {
+        due = r .0;
+        held = run-held cs (begin s x l);
+        stored = run-stored cs (begin s x l);
+        kept =
+            subst (λ (n : ℕ). KeptOutside g n) top-is
+            (subst (λ (g′ : Geometry). KeptOutside g′ (holds s x l .session .k)) geometry-is (run-kept cs (begin s x l)));
+        again = run-again s x l k sv _ _ (r .1);
+      }
+    where
+      KeptOutside : Geometry → ℕ → Type 0
+      KeptOutside g′ n =
+          (p : ℕ) → (Within p (allPlaces g′ n (events (begin s x l) cs)) → ⊥) → getD (final (begin s x l) cs .device) p 0 ≡ getD s p 0
+
+-- ---- two devices
+
+-- A byte of a part.
+byte-of : (s t : List ℕ) (a n p : ℕ) → part a n s ≡ part a n t → a ≤ p → p < a + n → getD s p 0 ≡ getD t p 0
+byte-of s t a n p e lo hi = sym (one s) ∙ ap (λ (l : List ℕ). getD l (p - a) 0) e ∙ one t
+  where
+    one : (l : List ℕ) → getD (part a n l) (p - a) 0 ≡ getD l p 0
+    one l =
+        let q : a + (p - a) ≡ p = omega arith in
+        getD-take n _ (p - a) 0 (omega arith) ∙ getD-drop a l (p - a) 0 ∙ ap (λ (i : ℕ). getD l i 0) q
+
+module _ (s t : List ℕ) (x : Handed) (l l′ : Lent) (k : ℕ) (sv : Served s x l k) (ag : Agree s t x l k)
+    (ml : length (l′ .maps) ≡ length (l .maps)) (ol : length (l′ .owners) ≡ length (l .owners)) where
+  second : (b : Served t x l′ k) × (openedBy t x l′ k b ≡ openedBy s x l k sv)
+  second =
+      let w = served-taken s x l k sv in
+      served-same s t x l l′ k
+      (record {
+        good = w .good;
+        long = sym (ag .long) ∙ w .long;
+        keyed = w .keyed;
+        tables = (ml ∙ w .tables .0, ol ∙ w .tables .1);
+        names = w .names;
+      })
+      (ag .cells) (ag .headers) sv
+
+  -- Both openings have one outcome.
+  both : opens s x l ≡ opens t x l′
+  both = served-is s x l k sv ∙ sym (served-is t x l′ k (second .0) ∙ second .1)
+
+  alike : Alike (begin s x l) (begin t x l′)
+  alike =
+      record { held = ap (holding (x .position)) both; long = ag .long; slices = subst Slices (sym (geometry-is s x l k sv)) slices }
+    where
+      entry-of : ℕ → ℕ → ℕ
+      entry-of i σ = tableEntry (holds s x l) i σ
+
+      Slices : Geometry → Type 0
+      Slices g = (i σ : ℕ) → i ≤ holds s x l .session .k → σ < g .p → entry-of i σ < g .p → SameSlice g s t (entry-of i σ)
+
+      slices : Slices (x .geometry)
+      slices i σ oi hσ less p lo hi =
+          let hi′ : i ≤ k = rw (top-is s x l k sv) at oi in
+          byte-of s t (sliceStart (x .geometry) (entry-of i σ)) (sliceSize (x .geometry)) p
+          (ag .slices i (entry-of i σ) hi′ less (σ, hσ, table-is s x l k sv i σ hi′ hσ)) lo hi
+
+pub points23 : Points23
+points23 s x l k e =
+    let sv = served s x l k e in
+    let is = served-is s x l k sv in
+    record {
+      vmk = sv .vmk;
+      lowest = served-cell s x l k sv;
+      keys = subst (λ (o : OpenOutcome). AllUnlocked s (x .geometry) k (sv .vmk) (o .session .keys)) (sym is) (served-keys s x l k sv);
+      leaves =
+          subst (λ (o : OpenOutcome). Opens x k (entriesBy s x l k sv o) (holding (x .position) o)) (sym is) (served-opens s x l k sv);
+      array = run s x l k sv;
+      twin = λ t l′ ag ml ol.
+          let b = second s t x l l′ k sv ag ml ol in (
+            ap (λ (o : OpenOutcome). o .answer) (served-is t x l′ k (b .0)),
+            λ cs. (
+              subst (λ (n : ℕ). EqualRuns n (begin s x l) (begin t x l′) cs) (top-is s x l k sv)
+                  (run-alike cs (begin s x l) (begin t x l′) (alike s t x l l′ k sv ag ml ol)),
+              run t x l′ k (b .0) cs,
+            ),
+          );
+    }

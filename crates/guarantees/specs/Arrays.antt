@@ -1,0 +1,140 @@
+-- Point 2 of the mission, call by call: each open volume is an array of blocks, and each request has the answer that it is
+-- due. Assumes nothing.
+use Prim.Native.Nat.{ℕ, _+_, _*_, _≤_, _<_}
+use mathlib.Core.Path.{_≡_}
+use mathlib.Core.List.{List, [], _∷_}
+use mathlib.Core.Bool.{true, false, _&&_}
+use lib.ListN.{length, set, replicate}
+use lib.Dec.{eqb}
+use Rattle.model.specs.declared.Change.the-variants.{Claimed, Rewritten}
+use Rattle.model.specs.Parts.{choose, part}
+use Rattle.model.specs.Geometry.{blockStart, mapBlocks}
+use Rattle.model.specs.Session.{Held, geometry, blockCount, slot, sliceOf, offsetOf, entryOf, unmapped, noKeys}
+use Rattle.model.specs.Read.{ReadResult}
+use Rattle.model.specs.Write.{WriteResult}
+use Rattle.model.specs.Close.{CloseResult}
+use Rattle.guarantees.specs.Runs.{State, Call, Event, Reads, Finds, Writes, Closes, outcome, next}
+use Rattle.model.specs.Conditions.{Enough}
+use Rattle.guarantees.specs.Rules.{sliceAt, AllHeld, FirstFree, FirstBad}
+
+-- Block a of volume i.
+abbrev pub Arrays : Type 0
+Arrays = ℕ → ℕ → List ℕ
+
+-- The arrays with one block replaced.
+abbrev pub put : Arrays → (i a : ℕ) → List ℕ → Arrays
+put arrays i a text j b = choose (eqb j i && eqb b a) text (arrays j b)
+
+-- A served write replaces its block, and nothing else changes an array.
+unfoldable pub arraysAfter : Arrays → Event → Arrays
+arraysAfter arrays (Writes i a text perm tape (WriteResult.Served change probes)) = put arrays i a text
+arraysAfter arrays (Writes i a text perm tape (WriteResult.Refused n probes)) = arrays
+arraysAfter arrays (Reads i a room r) = arrays
+arraysAfter arrays (Finds i a bytes) = arrays
+arraysAfter arrays (Closes tape r) = arrays
+
+unfoldable pub arraysAfterAll : Arrays → List Event → Arrays
+arraysAfterAll arrays [] = arrays
+arraysAfterAll arrays (e ∷ es) = arraysAfterAll (arraysAfter arrays e) es
+
+-- The tape bytes that a close of what is held needs: 16 for each map block of volumes 0 to k.
+abbrev pub closeBytes : Held → ℕ
+closeBytes h = 16 * mapBlocks (geometry h) * (h .session .k + 1)
+
+-- What is held after an event: a served write draws from the tape, a claim sets its entry and its owner, a served close
+-- wipes all but geometry and k.
+unfoldable pub heldAfter : Held → Event → Held
+heldAfter h (Writes i a text perm tape (WriteResult.Served (Rewritten ψ) probes)) =
+    record { maps = h .maps; owners = h .owners; position = h .position + 16; session = h .session }
+heldAfter h (Writes i a text perm tape (WriteResult.Served (Claimed ψ) probes)) =
+    record {
+      maps = set (h .maps) (slot (geometry h) i (sliceOf (geometry h) a)) ψ;
+      owners = set (h .owners) ψ (i + 1);
+      position = h .position + geometry h .b;
+      session = h .session;
+    }
+heldAfter h (Writes i a text perm tape (WriteResult.Refused n probes)) = h
+heldAfter h (Closes tape CloseResult.Closed) =
+    record {
+      maps = replicate (15 * geometry h .p) unmapped;
+      owners = replicate (geometry h .p) 0;
+      position = h .position + closeBytes h;
+      session = record { geometry = geometry h; k = h .session .k; keys = noKeys; opened = false };
+    }
+heldAfter h (Closes tape (CloseResult.Refused n)) = h
+heldAfter h (Reads i a room r) = h
+heldAfter h (Finds i a bytes) = h
+
+unfoldable pub heldAfterAll : Held → List Event → Held
+heldAfterAll h [] = h
+heldAfterAll h (e ∷ es) = heldAfterAll (heldAfter h e) es
+
+-- ---- when each answer is due
+
+-- The entry of block address a of volume i in the held map table.
+abbrev pub heldEntry : Held → (i a : ℕ) → ℕ
+heldEntry h i a = entryOf (h .maps) (geometry h) i a
+
+-- What an open session asks of a request with a permutation of n places, volume i, address a and a buffer or text of len
+-- bytes; a request without permutation has n = P.
+pub record Fits (h : Held) (n i a len : ℕ) : Type 0 where
+  pub opened : h .session .opened ≡ true
+  pub places : n ≡ geometry h .p
+  pub volume : i ≤ h .session .k
+  pub address : a < blockCount (geometry h) i
+  pub size : len ≡ geometry h .b
+
+-- The first of these that fails, by its refusal.
+pub data Unfit (h : Held) (n i a len : ℕ) : ℕ → Type 0 where
+  shut : (h .session .opened ≡ true → ⊥) → Unfit h n i a len 20
+  places : h .session .opened ≡ true → (n ≡ geometry h .p → ⊥) → Unfit h n i a len 5
+  volume : h .session .opened ≡ true → n ≡ geometry h .p → h .session .k < i → Unfit h n i a len 11
+  address : h .session .opened ≡ true → n ≡ geometry h .p → i ≤ h .session .k → blockCount (geometry h) i ≤ a → Unfit h n i a len 12
+  size : h .session .opened ≡ true → n ≡ geometry h .p → i ≤ h .session .k → a < blockCount (geometry h) i → (len ≡ geometry h .b → ⊥)
+      → Unfit h n i a len 13
+
+-- A read that fits is served with the array's block.
+pub data ReadDue (arrays : Arrays) (h : Held) (i a room : ℕ) : ReadResult → Type 0 where
+  filled : Fits h (geometry h .p) i a room → ReadDue arrays h i a room (ReadResult.Filled (arrays i a))
+  refused : (r : ℕ) → Unfit h (geometry h .p) i a room r → ReadDue arrays h i a room (ReadResult.Refused r)
+
+-- A find gives the stored block, and nothing where a read with a right buffer is refused or the slice is unmapped.
+pub data FindDue (device : List ℕ) (h : Held) (i a : ℕ) : List ℕ → Type 0 where
+  found : Fits h (geometry h .p) i a (geometry h .b) → heldEntry h i a < geometry h .p
+      → FindDue device h i a (part (blockStart (geometry h) (heldEntry h i a) (offsetOf (geometry h) a)) (geometry h .b) device)
+  nowhere : (Fits h (geometry h .p) i a (geometry h .b) → heldEntry h i a ≡ unmapped) → FindDue device h i a []
+
+-- A write that fits is served but where the tape is short (21), every slice held (22) or a place without slice met first (5).
+pub data WriteDue (h : Held) (i a : ℕ) (text perm tape : List ℕ) : WriteResult → Type 0 where
+  rewritten : Fits h (length perm) i a (length text) → heldEntry h i a < geometry h .p → Enough (length tape) (h .position) 16
+      → WriteDue h i a text perm tape (WriteResult.Served (Rewritten (heldEntry h i a)) 0)
+  rewrite-short : Fits h (length perm) i a (length text) → heldEntry h i a < geometry h .p → (Enough (length tape) (h .position) 16 → ⊥)
+      → WriteDue h i a text perm tape (WriteResult.Refused 21 0)
+  claimed : Fits h (length perm) i a (length text) → heldEntry h i a ≡ unmapped → (n : ℕ) → FirstFree (h .owners) (geometry h .p) perm n
+      → Enough (length tape) (h .position) (geometry h .b)
+      → WriteDue h i a text perm tape (WriteResult.Served (Claimed (sliceAt perm n)) (n + 1))
+  claim-short : Fits h (length perm) i a (length text) → heldEntry h i a ≡ unmapped → (n : ℕ) → FirstFree (h .owners) (geometry h .p) perm n
+      → (Enough (length tape) (h .position) (geometry h .b) → ⊥)
+      → WriteDue h i a text perm tape (WriteResult.Refused 21 (n + 1))
+  no-slice : Fits h (length perm) i a (length text) → heldEntry h i a ≡ unmapped → (n : ℕ) → FirstBad (h .owners) (geometry h .p) perm n
+      → WriteDue h i a text perm tape (WriteResult.Refused 5 (n + 1))
+  full : Fits h (length perm) i a (length text) → heldEntry h i a ≡ unmapped → AllHeld (h .owners) (geometry h .p) perm (length perm)
+      → WriteDue h i a text perm tape (WriteResult.Refused 22 (geometry h .p))
+  refused : (r : ℕ) → Unfit h (length perm) i a (length text) r → WriteDue h i a text perm tape (WriteResult.Refused r 0)
+
+-- A close of an open session is served but where the tape is short (21).
+pub data CloseDue (h : Held) (tape : List ℕ) : CloseResult → Type 0 where
+  done : h .session .opened ≡ true → Enough (length tape) (h .position) (closeBytes h) → CloseDue h tape CloseResult.Closed
+  close-short : h .session .opened ≡ true → (Enough (length tape) (h .position) (closeBytes h) → ⊥) → CloseDue h tape (CloseResult.Refused 21)
+  shut : (h .session .opened ≡ true → ⊥) → CloseDue h tape (CloseResult.Refused 20)
+
+unfoldable pub Due : Arrays → State → Event → Type 0
+Due arrays st (Reads i a room r) = ReadDue arrays (st .held) i a room r
+Due arrays st (Finds i a bytes) = FindDue (st .device) (st .held) i a bytes
+Due arrays st (Writes i a text perm tape r) = WriteDue (st .held) i a text perm tape r
+Due arrays st (Closes tape r) = CloseDue (st .held) tape r
+
+-- Every answer of the list is due, by the arrays as the calls before left them.
+unfoldable pub AllDue : Arrays → State → List Call → Type 0
+AllDue arrays st [] = Unit
+AllDue arrays st (c ∷ cs) = Due arrays st (outcome st c .answer) × AllDue (arraysAfter arrays (outcome st c .answer)) (next st c) cs

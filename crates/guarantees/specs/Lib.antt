@@ -1,0 +1,5 @@
+pub mod Runs
+pub mod Rules
+pub mod Openings
+pub mod Arrays
+pub mod Points

@@ -1,0 +1,79 @@
+-- Point 1 for an opening: which refusal, or which volume, its cells, headers and maps give (document 01, "Opening" and
+-- "Order at opening"). Assumes nothing.
+use Prim.Native.Nat.{ℕ, suc, _+_, _*_, _≤_, _<_}
+use mathlib.Core.Path.{_≡_}
+use mathlib.Core.Logic.{_⊎_}
+use mathlib.Core.List.{List}
+use lib.ListN.{length}
+use Rattle.gcm.specs.Gcm.{Text, WrongTag}
+use Rattle.model.specs.declared.Geometry.{Geometry}
+use Rattle.model.specs.Parts.{part}
+use Rattle.model.specs.Geometry.{numberAt, cellOf, headerOf}
+use Rattle.model.specs.Session.{unmapped}
+use Rattle.model.specs.Opening.{OpenOutcome, OpenTo, openCell, openHeader, vekOf, vmkBelow, mapEntries, untouched, wiped}
+use Rattle.guarantees.specs.Rules.{First, openRules}
+
+-- Cell k is the lowest that opens, and holds this VMK.
+pub record Lowest (device key : List ℕ) (k : ℕ) (vmk : List ℕ) : Type 0 where
+  pub top : k < 15
+  pub opens : openCell key k (cellOf device k) ≡ Text vmk
+  pub below : (i : ℕ) → i < k → openCell key i (cellOf device i) ≡ WrongTag
+
+-- The P and the S in a header's text are the geometry's.
+abbrev pub HeaderFits : Geometry → (text : List ℕ) → Type 0
+HeaderFits g text = (numberAt 64 text ≡ g .p) × (numberAt 68 text ≡ g .s)
+
+-- The headers k down to i + 1 open and fit, and the last of them gives the VMK of volume i.
+pub data Reached (device : List ℕ) (g : Geometry) (k : ℕ) (top : List ℕ) : (i : ℕ) → (vmk : List ℕ) → Type 0 where
+  from-cell : Reached device g k top k top
+  from-above : (i : ℕ) (vmk text : List ℕ) → Reached device g k top (suc i) vmk
+      → openHeader vmk (suc i) (headerOf g device (suc i)) ≡ Text text → HeaderFits g text → Reached device g k top i (vmkBelow text)
+
+-- The header of volume i opens and fits, and its text begins with this VEK.
+pub record Unlocked (device : List ℕ) (g : Geometry) (k : ℕ) (top : List ℕ) (i : ℕ) (vek : List ℕ) : Type 0 where
+  pub vmk : List ℕ
+  pub text : List ℕ
+  pub reached : Reached device g k top i vmk
+  pub opens : openHeader vmk i (headerOf g device i) ≡ Text text
+  pub fits : HeaderFits g text
+  pub is : vek ≡ vekOf text
+
+-- Every header k down to 0 opens and fits, and keys has their VEKs end to end.
+abbrev pub AllUnlocked : (device : List ℕ) → Geometry → (k : ℕ) → (top keys : List ℕ) → Type 0
+AllUnlocked device g k top keys = (i : ℕ) → i ≤ k → Unlocked device g k top i (part (32 * i) 32 keys)
+
+-- Each of the first n entries is the mark, or a slice that no entry before it names.
+abbrev pub Sound : (entries : ℕ → ℕ) → (p n : ℕ) → Type 0
+Sound entries p n = (m : ℕ) → m < n → (entries m ≡ unmapped) ⊎ ((entries m < p) × ((l : ℕ) → l < m → entries l ≡ entries m → ⊥))
+
+-- Refused by 1 to 5, the first rule that applies, an opening leaves the tables; refused by 6 to 10 it leaves marks and
+-- owners 0; it answers k where nothing is wrong.
+pub data OpenAnswered (device : List ℕ) (g : Geometry) (key maps owners perm : List ℕ) : OpenOutcome → Type 0 where
+  handed-wrong : (n : ℕ) → (n ≡ 0 → ⊥) → First (openRules g (length device) (length key) (length maps) (length owners) perm) n 0
+      → OpenAnswered device g key maps owners perm (untouched maps owners n)
+  no-cell : First (openRules g (length device) (length key) (length maps) (length owners) perm) 0 0
+      → ((i : ℕ) → i < 15 → openCell key i (cellOf device i) ≡ WrongTag)
+      → OpenAnswered device g key maps owners perm (wiped g 6)
+  header-tag : First (openRules g (length device) (length key) (length maps) (length owners) perm) 0 0
+      → (k : ℕ) (top : List ℕ) → Lowest device key k top → (i : ℕ) (vmk : List ℕ) → Reached device g k top i vmk
+      → openHeader vmk i (headerOf g device i) ≡ WrongTag
+      → OpenAnswered device g key maps owners perm (wiped g 7)
+  header-geometry : First (openRules g (length device) (length key) (length maps) (length owners) perm) 0 0
+      → (k : ℕ) (top : List ℕ) → Lowest device key k top → (i : ℕ) (vmk text : List ℕ) → Reached device g k top i vmk
+      → openHeader vmk i (headerOf g device i) ≡ Text text → (HeaderFits g text → ⊥)
+      → OpenAnswered device g key maps owners perm (wiped g 8)
+  bad-entry : First (openRules g (length device) (length key) (length maps) (length owners) perm) 0 0
+      → (k : ℕ) (top keys : List ℕ) → Lowest device key k top → AllUnlocked device g k top keys
+      → (n : ℕ) → n < (k + 1) * g .p → Sound (mapEntries g (headerOf g device) keys) (g .p) n
+      → (mapEntries g (headerOf g device) keys n ≡ unmapped → ⊥) → g .p ≤ mapEntries g (headerOf g device) keys n
+      → OpenAnswered device g key maps owners perm (wiped g 9)
+  slice-twice : First (openRules g (length device) (length key) (length maps) (length owners) perm) 0 0
+      → (k : ℕ) (top keys : List ℕ) → Lowest device key k top → AllUnlocked device g k top keys
+      → (n : ℕ) → n < (k + 1) * g .p → Sound (mapEntries g (headerOf g device) keys) (g .p) n
+      → mapEntries g (headerOf g device) keys n < g .p
+      → (m : ℕ) → m < n → mapEntries g (headerOf g device) keys m ≡ mapEntries g (headerOf g device) keys n
+      → OpenAnswered device g key maps owners perm (wiped g 10)
+  served : First (openRules g (length device) (length key) (length maps) (length owners) perm) 0 0
+      → (k : ℕ) (top : List ℕ) (o : OpenOutcome) → Lowest device key k top → AllUnlocked device g k top (o .session .keys)
+      → Sound (mapEntries g (headerOf g device) (o .session .keys)) (g .p) ((k + 1) * g .p)
+      → o .answer ≡ OpenTo k → OpenAnswered device g key maps owners perm o

@@ -1,0 +1,168 @@
+-- The three points of the mission, as statements about the model. Assumes nothing.
+use Prim.Native.Nat.{ℕ, suc, _+_, _*_, _≤_, _<_}
+use mathlib.Core.Path.{_≡_}
+use mathlib.Core.List.{List}
+use mathlib.Core.Bool.{true}
+use lib.ListN.{length, getD}
+use Rattle.gcm.specs.Gcm.{Text, WrongTag}
+use Rattle.model.specs.declared.Geometry.{Geometry}
+use Rattle.model.specs.declared.Session.{Session}
+use Rattle.model.specs.declared.Change.{Change}
+use Rattle.model.specs.Parts.{part, patched}
+use Rattle.model.specs.Geometry.{cellOf, headerOf, sliceStart, sliceSize}
+use Rattle.model.specs.Session.{Held, held, Outcome, idle, geometry, keyOf, blockCount, entry, sliceOf, offsetOf, unmapped}
+use Rattle.model.specs.Opening.{OpenOutcome, OpenTo, openModel, openCell, openHeader, vekOf, vmkBelow, storedEntry}
+use Rattle.model.specs.Read.{ReadResult, Filled, readModel, blockOf, deciphered}
+use Rattle.model.specs.Write.{WriteResult, writeModel}
+use Rattle.model.specs.Close.{CloseResult, closeModel}
+use Rattle.guarantees.specs.Runs.{State, Call, Closing, Closes, outcome, next, final, events, positions, stores, allPlaces, Within}
+use Rattle.model.specs.Conditions.{TablesFit}
+use Rattle.guarantees.specs.Rules.{First, readRules, writeRules, closeRules, SearchEnds, Names}
+use Rattle.guarantees.specs.Openings.{Lowest, AllUnlocked, OpenAnswered}
+use Rattle.guarantees.specs.Arrays.{Arrays, arraysAfterAll, heldAfterAll, AllDue}
+
+-- ---- point 1: any arguments
+
+-- A read is served with its block, or refused by the first rule that applies; either way it changes nothing.
+pub data ReadAnswered (device maps owners : List ℕ) (s : Session) (i a room : ℕ) : ReadResult → Type 0 where
+  served : First (readRules (length device) maps owners s i a room) 0 0
+      → ReadAnswered device maps owners s i a room (Filled (blockOf device maps s i a))
+  refused : (n : ℕ) → (n ≡ 0 → ⊥) → First (readRules (length device) maps owners s i a room) n 0
+      → ReadAnswered device maps owners s i a room (ReadResult.Refused n)
+
+-- A write is served, or refused by the first rule that applies, with the places looked at, and then changes nothing; place
+-- is where its search would end.
+pub data WriteAnswered (device : ℕ) (h : Held) (i a : ℕ) (text perm tape : List ℕ) : Outcome WriteResult → Type 0 where
+  served : (place probes : ℕ) (change : Change) (o : Outcome WriteResult) → o .answer ≡ WriteResult.Served change probes
+      → SearchEnds (h .owners) (geometry h .p) perm place
+      → First (writeRules device h i a text perm tape place) 0 0 → WriteAnswered device h i a text perm tape o
+  refused : (place n probes : ℕ) → (n ≡ 0 → ⊥) → SearchEnds (h .owners) (geometry h .p) perm place
+      → First (writeRules device h i a text perm tape place) n probes
+      → WriteAnswered device h i a text perm tape (idle h (WriteResult.Refused n probes))
+
+-- A close likewise.
+pub data CloseAnswered (device : ℕ) (h : Held) (tape : List ℕ) : Outcome CloseResult → Type 0 where
+  served : (o : Outcome CloseResult) → o .answer ≡ CloseResult.Closed → First (closeRules device h (length tape)) 0 0
+      → CloseAnswered device h tape o
+  refused : (n : ℕ) → (n ≡ 0 → ⊥) → First (closeRules device h (length tape)) n 0 → CloseAnswered device h tape (idle h (CloseResult.Refused n))
+
+pub record Point1 : Type 0 where
+  pub reads : (device maps owners : List ℕ) (s : Session) (i a room : ℕ)
+      → ReadAnswered device maps owners s i a room (readModel device maps owners s i a room)
+  pub writes : (device : ℕ) (h : Held) (i a : ℕ) (text perm tape : List ℕ)
+      → WriteAnswered device h i a text perm tape (writeModel device h i a text perm tape)
+  pub closes : (device : ℕ) (h : Held) (tape : List ℕ) → CloseAnswered device h tape (closeModel device h tape)
+  pub opens : (device : List ℕ) (g : Geometry) (key maps owners perm : List ℕ)
+      → OpenAnswered device g key maps owners perm (openModel device g key maps owners perm)
+
+-- ---- a served opening
+
+-- What an opening is handed beside the device, with the tape position of the run that it starts; and the lent tables, with
+-- whatever they hold.
+pub record Handed : Type 0 where
+  pub geometry : Geometry
+  pub key : List ℕ
+  pub perm : List ℕ
+  pub position : ℕ
+
+pub record Lent : Type 0 where
+  pub maps : List ℕ
+  pub owners : List ℕ
+
+abbrev pub opens : List ℕ → Handed → Lent → OpenOutcome
+opens device x l = openModel device (x .geometry) (x .key) (l .maps) (l .owners) (x .perm)
+
+-- What is held after it, and the state in which the list of calls begins.
+abbrev pub holds : List ℕ → Handed → Lent → Held
+holds device x l = held (opens device x l .maps) (opens device x l .owners) (x .position) (opens device x l .session)
+
+abbrev pub begin : List ℕ → Handed → Lent → State
+begin device x l = record { device = device; held = holds device x l }
+
+-- ---- what stands on the device
+
+-- Entry σ of header i's map, deciphered under the VEK that the session holds.
+abbrev pub mapEntry : List ℕ → Handed → Lent → (i σ : ℕ) → ℕ
+mapEntry device x l i σ = storedEntry (x .geometry) (keyOf (opens device x l .session) i) (headerOf (x .geometry) device i) σ
+
+-- At first each block is what the volume's map and slices decipher to, zeros where unmapped.
+abbrev pub firstArrays : List ℕ → Handed → Lent → Arrays
+firstArrays device x l i a =
+    deciphered (x .geometry) (keyOf (opens device x l .session) i) (mapEntry device x l i (sliceOf (x .geometry) a)) (offsetOf (x .geometry) a) device
+
+-- Header i maps slice ψ: one of its entries 0 to P - 1 is the slice's number.
+abbrev pub Maps : (entries : ℕ → ℕ → ℕ) → (p i ψ : ℕ) → Type 0
+Maps entries p i ψ = (σ : ℕ) × (σ < p) × (entries i σ ≡ ψ)
+
+-- What a served opening leaves: an open session, and the tables of these entries.
+pub record Opens (x : Handed) (k : ℕ) (entries : ℕ → ℕ → ℕ) (h : Held) : Type 0 where
+  pub opened : h .session .opened ≡ true
+  pub same : geometry h ≡ x .geometry
+  pub top : h .session .k ≡ k
+  pub position : h .position ≡ x .position
+  pub maps-long : length (h .maps) ≡ 15 * x .geometry .p
+  pub owners-long : length (h .owners) ≡ x .geometry .p
+  pub mapped : (i σ : ℕ) → i ≤ k → σ < x .geometry .p → entry (h .maps) (geometry h) i σ ≡ entries i σ
+  pub above : (i σ : ℕ) → k < i → i < 15 → σ < x .geometry .p → entry (h .maps) (geometry h) i σ ≡ unmapped
+  pub owner : (i ψ : ℕ) → i ≤ k → ψ < x .geometry .p → Maps entries (x .geometry .p) i ψ → getD (h .owners) ψ 0 ≡ i + 1
+  pub free : (ψ : ℕ) → ψ < x .geometry .p → ((i : ℕ) → i ≤ k → Maps entries (x .geometry .p) i ψ → ⊥) → getD (h .owners) ψ 0 ≡ 0
+
+-- ---- point 2: one run
+
+-- An opening to volume k that gives these arrays.
+pub record Reopens (device : List ℕ) (y : Handed) (l : Lent) (k : ℕ) (arrays : Arrays) : Type 0 where
+  pub served : opens device y l .answer ≡ OpenTo k
+  pub same : (i a : ℕ) → i ≤ k → a < blockCount (y .geometry) i → firstArrays device y l i a ≡ arrays i a
+
+pub record Run (s : List ℕ) (x : Handed) (l : Lent) (k : ℕ) (cs : List Call) : Type 0 where
+  -- Every answer is the one that the arrays give, and what is held follows from the answers.
+  pub due : AllDue (firstArrays s x l) (begin s x l) cs
+  pub held : final (begin s x l) cs .held ≡ heldAfterAll (holds s x l) (events (begin s x l) cs)
+  -- The device is the first one with the patches stored in order, and is its own but for the written places.
+  pub stored : final (begin s x l) cs .device ≡ patched (stores (begin s x l) cs) s
+  pub kept : (p : ℕ) → (Within p (allPlaces (x .geometry) k (events (begin s x l) cs)) → ⊥) → getD (final (begin s x l) cs .device) p 0 ≡ getD s p 0
+  -- Closed and opened again with the same key, any permutation that names each slice and any tables: the same arrays.
+  pub again : (tape : List ℕ) → outcome (final (begin s x l) cs) (Closing tape) .answer ≡ Closes tape CloseResult.Closed
+      → (y : Handed) (l′ : Lent) → y .geometry ≡ x .geometry → y .key ≡ x .key
+      → Names (y .geometry .p) (y .perm) → TablesFit (y .geometry) (length (l′ .maps)) (length (l′ .owners))
+      → Reopens (next (final (begin s x l) cs) (Closing tape) .device) y l′ k (arraysAfterAll (firstArrays s x l) (events (begin s x l) cs))
+
+-- ---- point 3: two runs
+
+-- The bytes of slice ψ.
+abbrev pub sliceBytes : Geometry → List ℕ → ℕ → List ℕ
+sliceBytes g device ψ = part (sliceStart g ψ) (sliceSize g) device
+
+-- Devices of one length that agree on the cells and headers up to k and on every slice that those headers map.
+pub record Agree (s t : List ℕ) (x : Handed) (l : Lent) (k : ℕ) : Type 0 where
+  pub long : length s ≡ length t
+  pub cells : (i : ℕ) → i ≤ k → cellOf s i ≡ cellOf t i
+  pub headers : (i : ℕ) → i ≤ k → headerOf (x .geometry) s i ≡ headerOf (x .geometry) t i
+  pub slices : (i ψ : ℕ) → i ≤ k → ψ < x .geometry .p → Maps (mapEntry s x l) (x .geometry .p) i ψ
+      → sliceBytes (x .geometry) s ψ ≡ sliceBytes (x .geometry) t ψ
+
+-- Two runs of one list: equal answers, tape positions, tables and session, equal patches, and equal bytes where they wrote.
+pub record EqualRuns (k : ℕ) (st st′ : State) (cs : List Call) : Type 0 where
+  pub same-events : events st cs ≡ events st′ cs
+  pub same-positions : positions st cs ≡ positions st′ cs
+  pub same-held : final st cs .held ≡ final st′ cs .held
+  pub same-stores : stores st cs ≡ stores st′ cs
+  pub written : (p : ℕ) → Within p (allPlaces (geometry (st .held)) k (events st cs)) → getD (final st cs .device) p 0 ≡ getD (final st′ cs .device) p 0
+
+-- ---- points 2 and 3, of a served opening
+
+pub record Guarantee (s : List ℕ) (x : Handed) (l : Lent) (k : ℕ) : Type 0 where
+  -- Cell k is the lowest that opens, and the session has the VEKs of the headers below it.
+  pub vmk : List ℕ
+  pub lowest : Lowest s (x .key) k vmk
+  pub keys : AllUnlocked s (x .geometry) k vmk (opens s x l .session .keys)
+  -- The opening leaves the tables of the maps on the device.
+  pub leaves : Opens x k (mapEntry s x l) (holds s x l)
+  -- Point 2.
+  pub array : (cs : List Call) → Run s x l k cs
+  -- Point 3.
+  pub twin : (t : List ℕ) (l′ : Lent) → Agree s t x l k → length (l′ .maps) ≡ length (l .maps) → length (l′ .owners) ≡ length (l .owners)
+      → (opens t x l′ .answer ≡ OpenTo k) × ((cs : List Call) → EqualRuns k (begin s x l) (begin t x l′) cs × Run t x l′ k cs)
+
+abbrev pub Points23 : Type 0
+Points23 = (s : List ℕ) (x : Handed) (l : Lent) (k : ℕ) → opens s x l .answer ≡ OpenTo k → Guarantee s x l k

@@ -1,0 +1,114 @@
+-- Point 1 of the mission: the listed refusals of each call in their listed order, each with its condition (document 01,
+-- "Refused for ..", and the orders below the tables). The conditions are the document's, in their own words and not the
+-- model's. Assumes nothing.
+use Prim.Native.Nat.{ℕ, _+_, _-_, _*_, _≤_, _<_}
+use mathlib.Core.Path.{_≡_}
+use mathlib.Core.Logic.{_⊎_}
+use mathlib.Core.Bool.{true}
+use mathlib.Core.List.{List, [], _∷_, _++_}
+use lib.ListN.{length, getD}
+use Rattle.model.specs.declared.Geometry.{Geometry}
+use Rattle.model.specs.declared.Session.{Session}
+use Rattle.model.specs.Conditions.{Usable, TablesFit, EntryFits, Enough}
+use Rattle.model.specs.Geometry.{Allowed, deviceLength, mapBlocks}
+use Rattle.model.specs.Session.{Held, geometry, unmapped, entryOf}
+
+-- A refusal with the places looked at that it carries, and its condition.
+pub record Rule : Type 1 where
+  pub number : ℕ
+  pub probes : ℕ
+  pub holds : Type 0
+
+abbrev pub rule : ℕ → Type 0 → Rule
+rule n holds = record { number = n; probes = 0; holds = holds }
+
+-- n and c are the number and the count of the first rule whose condition holds; 0 and 0 where none does.
+unfoldable pub First : List Rule → (n c : ℕ) → Type 0
+First [] n c = (n ≡ 0) × (c ≡ 0)
+First (r ∷ rs) n c = (r .holds × (n ≡ r .number) × (c ≡ r .probes)) ⊎ ((r .holds → ⊥) × First rs n c)
+
+-- ---- conditions
+
+-- The slice at a place of a permutation.
+abbrev pub sliceAt : List ℕ → ℕ → ℕ
+sliceAt perm n = getD perm n 0
+
+-- Each of the first n places names a slice, and it is held.
+abbrev pub AllHeld : (owners : List ℕ) → (p : ℕ) → (perm : List ℕ) → (n : ℕ) → Type 0
+AllHeld owners p perm n = (m : ℕ) → m < n → (sliceAt perm m < p) × (getD owners (sliceAt perm m) 0 ≡ 0 → ⊥)
+
+-- Place n is the first whose slice is free.
+pub record FirstFree (owners : List ℕ) (p : ℕ) (perm : List ℕ) (n : ℕ) : Type 0 where
+  pub inside : n < length perm
+  pub slice : sliceAt perm n < p
+  pub free : getD owners (sliceAt perm n) 0 ≡ 0
+  pub before : AllHeld owners p perm n
+
+-- Place n names no slice, and no place before it a free one.
+pub record FirstBad (owners : List ℕ) (p : ℕ) (perm : List ℕ) (n : ℕ) : Type 0 where
+  pub inside : n < length perm
+  pub bad : p ≤ sliceAt perm n
+  pub before : AllHeld owners p perm n
+
+-- Place n is where the search of a claim ends: the first free place, or the first that names no slice; any where all are held.
+abbrev pub SearchEnds : (owners : List ℕ) → (p : ℕ) → (perm : List ℕ) → (n : ℕ) → Type 0
+SearchEnds owners p perm n = FirstFree owners p perm n ⊎ FirstBad owners p perm n ⊎ AllHeld owners p perm (length perm)
+
+-- A permutation of P places that names each slice.
+pub record Names (p : ℕ) (perm : List ℕ) : Type 0 where
+  pub places : length perm ≡ p
+  pub each : (ψ : ℕ) → ψ < p → (n : ℕ) × (n < length perm) × (sliceAt perm n ≡ ψ)
+
+-- ---- the orders
+
+-- 20, 2, 4.
+abbrev pub standingRules : (device maps owners : ℕ) → Session → List Rule
+standingRules device maps owners s =
+    rule 20 (Usable s → ⊥)
+    ∷ rule 2 (device ≡ deviceLength (s .geometry) → ⊥)
+    ∷ rule 4 (TablesFit (s .geometry) maps owners → ⊥)
+    ∷ []
+
+-- 11, 12, 13, 9.
+abbrev pub askedRules : (maps : List ℕ) → Session → (i a len : ℕ) → List Rule
+askedRules maps s i a len =
+    rule 11 (s .k < i)
+    ∷ rule 12 (s .geometry .p * s .geometry .s ≤ a)
+    ∷ rule 13 (len ≡ s .geometry .b → ⊥)
+    ∷ rule 9 (EntryFits (s .geometry) (entryOf maps (s .geometry) i a) → ⊥)
+    ∷ []
+
+-- Opening: 1 to 5; what follows them is said by the cells, the headers and the maps.
+abbrev pub openRules : Geometry → (device key maps owners : ℕ) → (perm : List ℕ) → List Rule
+openRules g device key maps owners perm =
+    rule 1 (Allowed g → ⊥)
+    ∷ rule 2 (device ≡ deviceLength g → ⊥)
+    ∷ rule 3 (key ≡ 32 → ⊥)
+    ∷ rule 4 (TablesFit g maps owners → ⊥)
+    ∷ rule 5 (Names (g .p) perm → ⊥)
+    ∷ []
+
+-- Read: 20, 2, 4, 11, 12, 13, 9.
+abbrev pub readRules : (device : ℕ) → (maps owners : List ℕ) → Session → (i a room : ℕ) → List Rule
+readRules device maps owners s i a room = standingRules device (length maps) (length owners) s ++ askedRules maps s i a room
+
+-- Write: 20, 2, 4, 5 (length), 11, 12, 13, 9; then 21 for a rewrite, and for a claim 5 at place n or 22, then 21, with the
+-- places looked at.
+abbrev pub writeRules : (device : ℕ) → Held → (i a : ℕ) → (text perm tape : List ℕ) → (n : ℕ) → List Rule
+writeRules device h i a text perm tape n =
+    standingRules device (length (h .maps)) (length (h .owners)) (h .session)
+    ++ (rule 5 (length perm ≡ geometry h .p → ⊥)
+    ∷ (askedRules (h .maps) (h .session) i a (length text)
+    ++ (rule 21 ((entryOf (h .maps) (geometry h) i a < geometry h .p) × (Enough (length tape) (h .position) 16 → ⊥))
+    ∷ record { number = 5; probes = n + 1; holds = (entryOf (h .maps) (geometry h) i a ≡ unmapped) × FirstBad (h .owners) (geometry h .p) perm n }
+    ∷ record { number = 22; probes = geometry h .p; holds = (entryOf (h .maps) (geometry h) i a ≡ unmapped) × AllHeld (h .owners) (geometry h .p) perm (length perm) }
+    ∷ record { number = 21; probes = n + 1; holds = (entryOf (h .maps) (geometry h) i a ≡ unmapped) × (Enough (length tape) (h .position) (geometry h .b) → ⊥) }
+    ∷ [])))
+
+-- Close: 20, 2, 4, then 9 for a bad entry in rows 0 to k, then 21.
+abbrev pub closeRules : (device : ℕ) → Held → (tape : ℕ) → List Rule
+closeRules device h tape =
+    standingRules device (length (h .maps)) (length (h .owners)) (h .session)
+    ++ (rule 9 (((n : ℕ) → n < (h .session .k + 1) * geometry h .p → EntryFits (geometry h) (getD (h .maps) n 0)) → ⊥)
+    ∷ rule 21 (Enough tape (h .position) (16 * mapBlocks (geometry h) * (h .session .k + 1)) → ⊥)
+    ∷ [])

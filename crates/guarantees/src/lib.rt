@@ -1,0 +1,13 @@
+// The guarantees: the three points of the mission as theorems about the model, points 2 and 3 about lists of calls.
+// Each function here runs nothing; its `ensures` is the statement that the check has to prove.
+ghost use Rattle.guarantees.specs.Points.{Point1, Points23};
+
+// Point 1: any call with any arguments is served or refused by the first listed refusal that applies.
+pub fn point_one()
+    ensures { λ r. ⌜ Point1 ⌝ }
+{}
+
+// Points 2 and 3, from a served opening on.
+pub fn points_two_and_three()
+    ensures { λ r. ⌜ Points23 ⌝ }
+{}

@@ -1,0 +1,5 @@
+pub mod Parts
+pub mod Tests
+pub mod Requests
+pub mod Cells
+pub mod Claimed

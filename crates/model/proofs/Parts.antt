@@ -1,0 +1,183 @@
+-- Laws of part, overlay and joined. Assumes nothing.
+use Prim.Native.Nat.{ℕ, zero, suc, _+_, _*_, _≤_, _<_}
+use mathlib.Core.Path.{_≡_, refl, sym, ap, ap₂, _∙_}
+use mathlib.Core.List.{List, [], _∷_, _++_}
+use mathlib.Core.Logic.{⊎-elim}
+use native.Mathlib.Omega.{arith}
+use native.Mathlib.Nat.{eq-or-lt-of-le, le-of-suc-le-suc, le-of-eq, zero-add, zero-mul, suc-add, suc-mul, mul-le-mul-right, add-zero}
+use lib.ListN.{length, take, drop, getD, length-append, length-take, length-drop}
+use lib.Seq.{take-append-le, drop-append-le, drop-append-add, drop-drop, drop-at, take-all}
+use Rattle.model.specs.Parts.{part, overlay, joined}
+
+-- ---- part
+
+module _ {ℓ} {A : Type ℓ} where
+  pub part-length : (s : List A) (a n : ℕ) → a + n ≤ length s → length (part a n s) ≡ n
+  part-length s a n h = simp (length-take, length-drop) (omega arith)
+
+  -- A part that ends within the first of two lists.
+  pub part-left : (p q : List A) (a n : ℕ) → a + n ≤ length p → part a n (p ++ q) ≡ part a n p
+  part-left p q a n h = rw (drop-append-le a p q (omega arith)) (take-append-le n (drop a p) q (simp length-drop (omega arith)))
+
+  -- A part that begins in the second.
+  pub part-right : (p q : List A) (k : ℕ) → length p ≡ k → (x u : ℕ) → part (k + x) u (p ++ q) ≡ part x u q
+  part-right p q k e x u = ap (λ (y : ℕ). part (y + x) u (p ++ q)) (sym e) ∙ ap (take u) (drop-append-add p q x)
+
+  part-take : (s : List A) (w x n : ℕ) → x + n ≤ w → part x n (take w s) ≡ part x n s
+  part-take [] zero x n h = refl
+  part-take [] (suc w) x n h = refl
+  part-take (y ∷ s) zero zero zero h = refl
+  part-take (y ∷ s) zero zero (suc n) h = absurd (omega arith)
+  part-take (y ∷ s) zero (suc x) n h = absurd (omega arith)
+  part-take (y ∷ s) (suc w) zero zero h = refl
+  part-take (y ∷ s) (suc w) zero (suc n) h = ap (λ (l : List A). y ∷ l) (part-take s w zero n (omega arith))
+  part-take (y ∷ s) (suc w) (suc x) n h = part-take s w x n (omega arith)
+
+  pub part-part : (s : List A) (a w x n : ℕ) → x + n ≤ w → part x n (part a w s) ≡ part (a + x) n s
+  part-part s a w x n h = part-take (drop a s) w x n h ∙ ap (take n) (drop-drop x a s)
+
+  -- Lists of one length that agree on a range have equal parts there.
+  pub part-agree : (z : A) (s t : List A) (a n : ℕ) → length s ≡ length t → ((p : ℕ) → a ≤ p → p < a + n → getD s p z ≡ getD t p z)
+      → part a n s ≡ part a n t
+  part-agree z [] [] a n e h = refl
+  part-agree z [] (y ∷ t) a n e h = absurd (omega arith)
+  part-agree z (x ∷ s) [] a n e h = absurd (omega arith)
+  part-agree z (x ∷ s) (y ∷ t) zero zero e h = refl
+  part-agree z (x ∷ s) (y ∷ t) zero (suc n) e h =
+      ap₂ (λ (w : A) (l : List A). w ∷ l) (h zero (omega arith) (omega arith))
+      (part-agree z s t zero n (omega arith) (λ p l m. h (suc p) (omega arith) (omega arith)))
+  part-agree z (x ∷ s) (y ∷ t) (suc a) n e h = part-agree z s t a n (omega arith) (λ p l m. h (suc p) (omega arith) (omega arith))
+
+-- ---- overlay, by parts
+
+module _ {ℓ} {A : Type ℓ} where
+  pub overlay-length : (s : List A) (at : ℕ) (d : List A) → length (overlay s at d) ≡ length s
+  unfolding overlay
+  overlay-length [] at d = refl
+  overlay-length (x ∷ s) (suc at) d = ap suc (overlay-length s at d)
+  overlay-length (x ∷ s) zero [] = refl
+  overlay-length (x ∷ s) zero (y ∷ d) = ap suc (overlay-length s zero d)
+
+  -- A part that ends before the new elements is as it was.
+  pub overlay-before : (s : List A) (at : ℕ) (d : List A) (a n : ℕ) → a + n ≤ at → part a n (overlay s at d) ≡ part a n s
+  unfolding overlay
+  overlay-before [] at d a n h = refl
+  overlay-before (x ∷ s) zero d zero zero h = refl
+  overlay-before (x ∷ s) zero d (suc a) n h = absurd (omega arith)
+  overlay-before (x ∷ s) zero d zero (suc n) h = absurd (omega arith)
+  overlay-before (x ∷ s) (suc at) d zero zero h = refl
+  overlay-before (x ∷ s) (suc at) d zero (suc n) h = ap (λ (l : List A). x ∷ l) (overlay-before s at d zero n (omega arith))
+  overlay-before (x ∷ s) (suc at) d (suc a) n h = overlay-before s at d a n (omega arith)
+
+  -- A part that begins after them is as it was.
+  pub overlay-after : (s : List A) (at : ℕ) (d : List A) (a n : ℕ) → at + length d ≤ a → part a n (overlay s at d) ≡ part a n s
+  unfolding overlay
+  overlay-after [] at d a n h = refl
+  overlay-after (x ∷ s) zero [] a n h = refl
+  overlay-after (x ∷ s) zero (y ∷ d) zero n h = absurd (omega arith)
+  overlay-after (x ∷ s) zero (y ∷ d) (suc a) n h = overlay-after s zero d a n (omega arith)
+  overlay-after (x ∷ s) (suc at) d zero n h = absurd (omega arith)
+  overlay-after (x ∷ s) (suc at) d (suc a) n h = overlay-after s at d a n (omega arith)
+
+  within-zero : (s d : List A) (i n : ℕ) → i + n ≤ length d → length d ≤ length s → part i n (overlay s zero d) ≡ part i n d
+  unfolding overlay
+  within-zero [] [] i n h k = refl
+  within-zero [] (y ∷ d) i n h k = absurd (omega arith)
+  within-zero (x ∷ s) [] zero zero h k = refl
+  within-zero (x ∷ s) [] zero (suc n) h k = absurd (omega arith)
+  within-zero (x ∷ s) [] (suc i) n h k = absurd (omega arith)
+  within-zero (x ∷ s) (y ∷ d) zero zero h k = refl
+  within-zero (x ∷ s) (y ∷ d) zero (suc n) h k = ap (λ (l : List A). y ∷ l) (within-zero s d zero n (omega arith) (omega arith))
+  within-zero (x ∷ s) (y ∷ d) (suc i) n h k = within-zero s d i n (omega arith) (omega arith)
+
+  -- A part among them is a part of them.
+  pub overlay-within : (s : List A) (at : ℕ) (d : List A) (i n : ℕ) → i + n ≤ length d → at + length d ≤ length s
+      → part (at + i) n (overlay s at d) ≡ part i n d
+  unfolding overlay
+  overlay-within s zero d i n h k = rw zero-add (within-zero s d i n h (omega arith))
+  overlay-within [] (suc at) d i n h k = absurd (omega arith)
+  overlay-within (x ∷ s) (suc at) d i n h k = rw suc-add (overlay-within s at d i n h (omega arith))
+
+  -- They stand there whole.
+  pub overlay-whole : (s : List A) (at : ℕ) (d : List A) (n : ℕ) → length d ≡ n → at + n ≤ length s → part at n (overlay s at d) ≡ d
+  overlay-whole s at d n e k =
+      ap (λ (a : ℕ). part a n (overlay s at d)) (sym (add-zero at))
+      ∙ overlay-within s at d zero n (omega arith) (omega arith)
+      ∙ take-all n d (omega arith)
+
+-- ---- overlay, element by element
+
+module _ {ℓ} {A : Type ℓ} (z : A) where
+  pub overlay-getD-before : (s : List A) (at : ℕ) (d : List A) (p : ℕ) → p < at → getD (overlay s at d) p z ≡ getD s p z
+  unfolding overlay
+  overlay-getD-before [] at d p h = refl
+  overlay-getD-before (x ∷ s) zero d p h = absurd (omega arith)
+  overlay-getD-before (x ∷ s) (suc at) d zero h = refl
+  overlay-getD-before (x ∷ s) (suc at) d (suc p) h = overlay-getD-before s at d p (omega arith)
+
+  pub overlay-getD-after : (s : List A) (at : ℕ) (d : List A) (p : ℕ) → at + length d ≤ p → getD (overlay s at d) p z ≡ getD s p z
+  unfolding overlay
+  overlay-getD-after [] at d p h = refl
+  overlay-getD-after (x ∷ s) zero [] p h = refl
+  overlay-getD-after (x ∷ s) zero (y ∷ d) zero h = absurd (omega arith)
+  overlay-getD-after (x ∷ s) zero (y ∷ d) (suc p) h = overlay-getD-after s zero d p (omega arith)
+  overlay-getD-after (x ∷ s) (suc at) d zero h = absurd (omega arith)
+  overlay-getD-after (x ∷ s) (suc at) d (suc p) h = overlay-getD-after s at d p (omega arith)
+
+  -- The same elements over two lists of one length: equal wherever the lists were.
+  pub overlay-getD-both : (s t : List A) (at : ℕ) (d : List A) (p : ℕ) → length s ≡ length t → getD s p z ≡ getD t p z
+      → getD (overlay s at d) p z ≡ getD (overlay t at d) p z
+  unfolding overlay
+  overlay-getD-both [] [] at d p e h = refl
+  overlay-getD-both [] (y ∷ t) at d p e h = absurd (omega arith)
+  overlay-getD-both (x ∷ s) [] at d p e h = absurd (omega arith)
+  overlay-getD-both (x ∷ s) (y ∷ t) zero [] p e h = h
+  overlay-getD-both (x ∷ s) (y ∷ t) zero (w ∷ d) zero e h = refl
+  overlay-getD-both (x ∷ s) (y ∷ t) zero (w ∷ d) (suc p) e h = overlay-getD-both s t zero d p (omega arith) h
+  overlay-getD-both (x ∷ s) (y ∷ t) (suc at) d zero e h = h
+  overlay-getD-both (x ∷ s) (y ∷ t) (suc at) d (suc p) e h = overlay-getD-both s t at d p (omega arith) h
+
+  -- And equal where the new elements stand.
+  pub overlay-getD-over : (s t : List A) (at : ℕ) (d : List A) (p : ℕ) → length s ≡ length t → at ≤ p → p < at + length d
+      → getD (overlay s at d) p z ≡ getD (overlay t at d) p z
+  unfolding overlay
+  overlay-getD-over [] [] at d p e h k = refl
+  overlay-getD-over [] (y ∷ t) at d p e h k = absurd (omega arith)
+  overlay-getD-over (x ∷ s) [] at d p e h k = absurd (omega arith)
+  overlay-getD-over (x ∷ s) (y ∷ t) zero [] p e h k = absurd (omega arith)
+  overlay-getD-over (x ∷ s) (y ∷ t) zero (w ∷ d) zero e h k = refl
+  overlay-getD-over (x ∷ s) (y ∷ t) zero (w ∷ d) (suc p) e h k = overlay-getD-over s t zero d p (omega arith) (omega arith) (omega arith)
+  overlay-getD-over (x ∷ s) (y ∷ t) (suc at) d zero e h k = absurd (omega arith)
+  overlay-getD-over (x ∷ s) (y ∷ t) (suc at) d (suc p) e h k = overlay-getD-over s t at d p (omega arith) (omega arith) (omega arith)
+
+-- ---- joined, where each piece has w elements
+
+module _ {ℓ} {A : Type ℓ} (w : ℕ) where
+  pub joined-length : (n : ℕ) (f : ℕ → List A) → ((j : ℕ) → j < n → length (f j) ≡ w) → length (joined n f) ≡ n * w
+  unfolding joined
+  joined-length zero f e = sym (zero-mul w)
+  joined-length (suc n) f e =
+      length-append (joined n f) (f n)
+      ∙ simp (joined-length n f (λ j h. e j (omega arith)), e n (omega arith)) (sym (suc-mul n w))
+
+  pub joined-part : (n : ℕ) (f : ℕ → List A) → ((j : ℕ) → j < n → length (f j) ≡ w) → (j : ℕ) → j < n → part (j * w) w (joined n f) ≡ f j
+  unfolding joined
+  joined-part zero f e j h = absurd (omega arith)
+  joined-part (suc n) f e j h =
+      ⊎-elim last (λ l. earlier l (joined-part n f (λ i k. e i (omega arith)) j l)) (eq-or-lt-of-le (le-of-suc-le-suc h))
+    where
+      long : length (joined n f) ≡ n * w
+      long = joined-length n f (λ i l. e i (omega arith))
+
+      last : j ≡ n → part (j * w) w (joined n f ++ f n) ≡ f j
+      last q = rw (q, drop-at (joined n f) (f n) (n * w) long) (take-all w (f n) (le-of-eq (e n (omega arith))))
+
+      earlier : j < n → part (j * w) w (joined n f) ≡ f j → part (j * w) w (joined n f ++ f n) ≡ f j
+      earlier l ih =
+          let fits : j * w + w ≤ length (joined n f) = rw (long, ← suc-mul j w) (mul-le-mul-right w l) in
+          part-left (joined n f) (f n) (j * w) w fits ∙ ih
+
+  -- A part of one piece.
+  pub joined-piece : (n : ℕ) (f : ℕ → List A) → ((j : ℕ) → j < n → length (f j) ≡ w) → (j : ℕ) → j < n → (x u : ℕ) → x + u ≤ w
+      → part (j * w + x) u (joined n f) ≡ part x u (f j)
+  joined-piece n f e j l x u h = sym (part-part (joined n f) (j * w) w x u h) ∙ ap (part x u) (joined-part n f e j l)

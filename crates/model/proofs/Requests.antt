@@ -1,0 +1,130 @@
+-- Laws of the refusals that requests share: what holds where none of them applies. Assumes nothing.
+use Prim.Native.Nat.{ℕ, suc, _-_, _≤_, _<_}
+use mathlib.Core.Path.{_≡_, ap, _∙_}
+use mathlib.Core.List.{List}
+use mathlib.Core.Bool.{true, false, not}
+use mathlib.Core.Logic.{⊎-elim}
+use native.Mathlib.Omega.{arith}
+use lib.Dec.{ltb}
+use lib.ListN.{length}
+use borrow.Author.Tests.{leb-false, ltb-true, ltb-false, eqb-true, not-false, le-ltb, lt-leb}
+use Rattle.model.specs.declared.Geometry.{Geometry}
+use Rattle.model.specs.declared.Session.{Session}
+use Rattle.model.specs.Geometry.{Allowed, deviceLength}
+use Rattle.model.specs.Session.{blockCount, entryOf, standing, asked, short}
+use Rattle.model.specs.Conditions.{Usable, TablesFit, EntryFits, Enough}
+use Rattle.model.specs.Opening.{missing, openRefusal}
+use Rattle.model.proofs.Tests.{or-true, or-false, equal-passes, refuse-none, refuse-false, badGeometry-none, badGeometry-allowed, badEntry-false, badEntry-fits}
+
+-- ---- 20, 2, 4
+
+-- A session that stands on a device and tables of these lengths.
+pub record Stands (device maps owners : ℕ) (s : Session) : Type 0 where
+  pub usable : Usable s
+  pub long : device ≡ deviceLength (s .geometry)
+  pub tables : TablesFit (s .geometry) maps owners
+
+module _ (device maps owners : ℕ) (s : Session) (rest : ℕ) where
+  pub standing-none : standing device maps owners s rest ≡ 0 → Stands device maps owners s × (rest ≡ 0)
+  unfolding standing
+  standing-none e =
+      let p1 = refuse-none _ _ _ e in
+      let p2 = badGeometry-none _ _ _ (p1 .1) in
+      let p3 = refuse-none _ _ _ (p2 .1) in
+      let p4 = refuse-none _ _ _ (p3 .1) in
+      let p5 = refuse-none _ _ _ (p4 .1) in
+      let p6 = refuse-none _ _ _ (p5 .1) in (
+        record {
+          usable = record { opened = not-false _ (p1 .0); allowed = p2 .0; top = ltb-false _ _ (p3 .0) };
+          long = eqb-true _ _ (not-false _ (p4 .0));
+          tables = (eqb-true _ _ (not-false _ (p5 .0)), eqb-true _ _ (not-false _ (p6 .0)));
+        },
+        p6 .1,
+      )
+
+  pub standing-stands : Stands device maps owners s → standing device maps owners s rest ≡ rest
+  unfolding standing
+  standing-stands q =
+      refuse-false _ _ _ (ap not (q .usable .opened))
+      ∙ badGeometry-allowed _ _ _ (q .usable .allowed)
+      ∙ refuse-false _ _ _ (le-ltb _ _ (q .usable .top))
+      ∙ refuse-false _ _ _ (equal-passes _ _ (q .long))
+      ∙ refuse-false _ _ _ (equal-passes _ _ (q .tables .0))
+      ∙ refuse-false _ _ _ (equal-passes _ _ (q .tables .1))
+
+-- ---- 11, 12, 13, 9
+
+-- A block that a request may ask for.
+pub record Asked (maps : List ℕ) (s : Session) (i a len : ℕ) : Type 0 where
+  pub volume : i ≤ s .k
+  pub address : a < blockCount (s .geometry) i
+  pub size : len ≡ s .geometry .b
+  pub mapped : EntryFits (s .geometry) (entryOf maps (s .geometry) i a)
+
+module _ (maps : List ℕ) (s : Session) (i a len : ℕ) where
+  pub asked-none : asked maps s i a len ≡ 0 → Asked maps s i a len
+  unfolding asked
+  asked-none e =
+      let p1 = refuse-none _ _ _ e in
+      let p2 = refuse-none _ _ _ (p1 .1) in
+      let p3 = refuse-none _ _ _ (p2 .1) in
+      let p4 = refuse-none _ _ _ (p3 .1) in
+      record {
+        volume = ltb-false _ _ (p1 .0);
+        address = leb-false _ _ (p2 .0);
+        size = eqb-true _ _ (not-false _ (p3 .0));
+        mapped = badEntry-false _ _ (p4 .0);
+      }
+
+  pub asked-served : Asked maps s i a len → asked maps s i a len ≡ 0
+  unfolding asked
+  asked-served q =
+      refuse-false _ _ _ (le-ltb _ _ (q .volume))
+      ∙ refuse-false _ _ _ (lt-leb _ _ (q .address))
+      ∙ refuse-false _ _ _ (equal-passes _ _ (q .size))
+      ∙ refuse-false _ _ _ (badEntry-fits _ _ (q .mapped))
+
+-- ---- 21
+
+pub short-false : (tape position need : ℕ) → short tape position need ≡ false → Enough tape position need
+unfolding short
+short-false tape position need e =
+    let q = or-false (ltb tape position) (ltb (tape - position) need) e in
+    omega (arith, ltb-false tape position (q .0), ltb-false (tape - position) need (q .1))
+
+pub short-true : (tape position need : ℕ) → short tape position need ≡ true → Enough tape position need → ⊥
+unfolding short
+short-true tape position need e l =
+    ⊎-elim (λ q. omega (arith, ltb-true tape position q)) (λ q. omega (arith, ltb-true (tape - position) need q))
+    (or-true (ltb tape position) (ltb (tape - position) need) e)
+
+-- ---- opening: 1 to 5
+
+-- What an opening may be handed.
+pub record Handed (g : Geometry) (device key maps owners : ℕ) (perm : List ℕ) : Type 0 where
+  pub allowed : Allowed g
+  pub long : device ≡ deviceLength g
+  pub key-long : key ≡ 32
+  pub tables : TablesFit g maps owners
+  pub places : length perm ≡ g .p
+  pub named : missing (g .p) perm ≡ false
+
+pub openRefusal-none : (g : Geometry) (device key maps owners : ℕ) (perm : List ℕ) → openRefusal g device key maps owners perm ≡ 0
+    → Handed g device key maps owners perm
+unfolding openRefusal
+openRefusal-none g device key maps owners perm e =
+    let p1 = badGeometry-none _ _ _ e in
+    let p2 = refuse-none _ _ _ (p1 .1) in
+    let p3 = refuse-none _ _ _ (p2 .1) in
+    let p4 = refuse-none _ _ _ (p3 .1) in
+    let p5 = refuse-none _ _ _ (p4 .1) in
+    let p6 = refuse-none _ _ _ (p5 .1) in
+    let p7 = refuse-none _ _ _ (p6 .1) in
+    record {
+      allowed = p1 .0;
+      long = eqb-true _ _ (not-false _ (p2 .0));
+      key-long = eqb-true _ _ (not-false _ (p3 .0));
+      tables = (eqb-true _ _ (not-false _ (p4 .0)), eqb-true _ _ (not-false _ (p5 .0)));
+      places = eqb-true _ _ (not-false _ (p6 .0));
+      named = p7 .0;
+    }

@@ -1,0 +1,110 @@
+-- Laws of tests, of refusals and of a geometry that passes them. Assumes nothing.
+use Prim.Native.Nat.{ℕ, suc, _≤_, _<_}
+use mathlib.Core.Path.{_≡_, refl, sym, ap, _∙_}
+use mathlib.Core.Bool.{Bool, true, false, not, _||_, false≢true}
+use mathlib.Core.Logic.{_⊎_, inl, inr, ⊎-elim}
+use native.Mathlib.Omega.{arith}
+use native.Mathlib.Nat.{eq-or-lt-of-le}
+use lib.Dec.{ltb, eqb}
+use borrow.Author.Tests.{ltb-true, ltb-false, eqb-true, eqb-false, not-false, eq-eqb, lt-ltb, le-ltb}
+use Rattle.refusals.specs.Numbers.{refuse}
+use Rattle.model.specs.declared.Geometry.{Geometry}
+use Rattle.model.specs.Geometry.{badGeometry}
+use Rattle.model.specs.Session.{unmapped, badEntry}
+use Rattle.model.specs.Geometry.{Allowed}
+
+-- ---- tests
+
+pub or-true : (a b : Bool) → (a || b) ≡ true → (a ≡ true) ⊎ (b ≡ true)
+or-true true b e = inl refl
+or-true false b e = inr e
+
+pub or-false : (a b : Bool) → (a || b) ≡ false → (a ≡ false) × (b ≡ false)
+or-false true b e = absurd (false≢true (sym e))
+or-false false b e = (refl, e)
+
+pub below : (a b : ℕ) → (a < b) ⊎ (b ≤ a)
+below a b = go (ltb a b) refl
+  where
+    go : (x : Bool) → ltb a b ≡ x → (a < b) ⊎ (b ≤ a)
+    go true e = inl (ltb-true a b e)
+    go false e = inr (ltb-false a b e)
+
+pub three : (a b : ℕ) → (a < b) ⊎ ((a ≡ b) ⊎ (b < a))
+three a b = ⊎-elim (λ l. inl l) (λ l. inr (⊎-elim (λ q. inl (sym q)) (λ m. inr m) (eq-or-lt-of-le l))) (below a b)
+
+pub equal : (a b : ℕ) → (a ≡ b) ⊎ (a ≡ b → ⊥)
+equal a b = go (eqb a b) refl
+  where
+    go : (x : Bool) → eqb a b ≡ x → (a ≡ b) ⊎ (a ≡ b → ⊥)
+    go true e = inl (eqb-true a b e)
+    go false e = inr (eqb-false a b e)
+
+pub equal-passes : (a b : ℕ) → a ≡ b → not (eqb a b) ≡ false
+equal-passes a b e = ap not (eq-eqb a b e)
+
+-- ---- refusals
+
+-- No refusal: this condition does not hold, and nothing that follows refuses.
+pub refuse-none : (b : Bool) (n r : ℕ) → refuse b (suc n) r ≡ 0 → (b ≡ false) × (r ≡ 0)
+unfolding refuse
+refuse-none true n r e = absurd (omega arith)
+refuse-none false n r e = (refl, e)
+
+-- A refusal is by this condition, or by what follows it.
+pub refuse-some : (b : Bool) (n rest r : ℕ) → refuse b n rest ≡ suc r → ((b ≡ true) × (n ≡ suc r)) ⊎ ((b ≡ false) × (rest ≡ suc r))
+unfolding refuse
+refuse-some true n rest r e = inl (refl, e)
+refuse-some false n rest r e = inr (refl, e)
+
+pub refuse-false : (b : Bool) (n r : ℕ) → b ≡ false → refuse b n r ≡ r
+unfolding refuse
+refuse-false b n r e = ap (λ (x : Bool). refuse x n r) e
+
+-- ---- geometry
+
+pub badGeometry-none : (number : ℕ) (g : Geometry) (rest : ℕ) → badGeometry (suc number) g rest ≡ 0 → Allowed g × (rest ≡ 0)
+unfolding badGeometry
+badGeometry-none number g rest e =
+    let p1 = refuse-none _ _ _ e in
+    let p2 = refuse-none _ _ _ (p1 .1) in
+    let p3 = refuse-none _ _ _ (p2 .1) in
+    let p4 = refuse-none _ _ _ (p3 .1) in
+    let p5 = refuse-none _ _ _ (p4 .1) in (
+      record {
+        block = ⊎-elim (λ q. inl (eqb-true _ _ q)) (λ q. inr (eqb-true _ _ q)) (or-true _ _ (not-false _ (p1 .0)));
+        slice-least = ltb-false _ _ (p2 .0);
+        slice-most = ltb-false _ _ (p3 .0);
+        slices-least = ltb-false _ _ (p4 .0);
+        slices-most = ltb-false _ _ (p5 .0);
+      },
+      p5 .1,
+    )
+
+pub badGeometry-allowed : (number : ℕ) (g : Geometry) (rest : ℕ) → Allowed g → badGeometry number g rest ≡ rest
+unfolding badGeometry
+badGeometry-allowed number g rest ok =
+    refuse-false _ _ _ size
+    ∙ refuse-false _ _ _ (le-ltb _ _ (ok .slice-least))
+    ∙ refuse-false _ _ _ (le-ltb _ _ (ok .slice-most))
+    ∙ refuse-false _ _ _ (le-ltb _ _ (ok .slices-least))
+    ∙ refuse-false _ _ _ (le-ltb _ _ (ok .slices-most))
+  where
+    size : not (eqb (g .b) 1024 || eqb (g .b) 4096) ≡ false
+    size = ⊎-elim (λ e. rw (eq-eqb (g .b) 1024 e) refl) (λ e. rw e refl) (ok .block)
+
+-- ---- entries
+
+pub badEntry-false : (p x : ℕ) → badEntry p x ≡ false → (x ≡ unmapped) ⊎ (x < p)
+badEntry-false p x e = ⊎-elim (λ q. inl (eqb-true _ _ q)) (λ q. inr (ltb-true _ _ q)) (or-true _ _ (not-false _ e))
+
+-- An entry that is the mark or a slice is not bad.
+pub badEntry-fits : (p x : ℕ) → (x ≡ unmapped) ⊎ (x < p) → badEntry p x ≡ false
+badEntry-fits p x w = ap not whole
+  where
+    or-right : (b : Bool) {c : Bool} → c ≡ true → (b || c) ≡ true
+    or-right true e = refl
+    or-right false e = e
+
+    whole : (eqb x unmapped || ltb x p) ≡ true
+    whole = ⊎-elim (λ e. rw (eq-eqb x unmapped e) refl) (λ l. or-right (eqb x unmapped) (lt-ltb x p l)) w

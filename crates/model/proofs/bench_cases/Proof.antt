@@ -1,0 +1,21 @@
+-- The bench cases hold: each row computes. Assumes nothing.
+use mathlib.Core.Path.{refl}
+use Rattle.refusals.specs.Numbers.{refuse}
+use Rattle.field.specs.Field.{xtimes, timesBits, times, squared, squares, inverse}
+use Rattle.field.specs.Sbox.{bit, affineBit, affine, sbox}
+use Rattle.block.specs.Bytes.{numberAfter, bigEndian}
+use Rattle.ctr.specs.CounterMode.{increment}
+use Rattle.model.specs.Geometry.{badGeometry, mapBlocks, headerBlocks, deviceLength, sliceStart, blockStart}
+use Rattle.model.specs.Session.{standing, asked, short}
+use Rattle.model.specs.Write.{search, firstFree}
+use Rattle.model.specs.Bench.{cases}
+use Rattle.model.proofs.bench_cases.Statement.{statement}
+use Rattle.model.proofs.bench_cases.Tie as tie
+
+returns : tie.Need-returns
+unfolding cases refuse badGeometry mapBlocks headerBlocks deviceLength sliceStart blockStart standing asked short search firstFree
+    xtimes timesBits times squared squares inverse bit affineBit affine sbox numberAfter bigEndian increment
+returns c = (refl, (refl, (refl, (refl, (refl, (refl, (refl, (refl, (refl, (refl, (refl, tt)))))))))))
+
+pub bench-cases-spec : {M : Type 1} → statement M
+bench-cases-spec = tie.close (tie.spec returns)

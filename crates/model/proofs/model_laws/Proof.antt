@@ -1,0 +1,18 @@
+-- `model::model_laws` meets its contract. Assumes nothing.
+use native.Mathlib.Omega.{arith}
+use lib.Seq.{getD-set-same}
+use Rattle.model.proofs.Cells.{firstCell-lowest}
+use Rattle.model.proofs.Claimed.{claimed-block}
+use Rattle.model.proofs.model_laws.Statement.{statement}
+use Rattle.model.proofs.model_laws.Tie as tie
+
+returns : tie.Need-returns
+returns c =
+    record {
+      lowest = λ key cell k vmk e. let l = firstCell-lowest key cell k vmk 15 0 e in (l .0, λ i h. l .1 i (omega arith) h);
+      claimed-block = λ b s key ivs j text n ivsl fit textl h. claimed-block b s key ivs j text ivsl fit textl n h;
+      claimed-owner = λ h i σ j ψ place text tape l. getD-set-same (h .owners) ψ _ 0 l;
+    }
+
+pub model-laws-spec : {M : Type 1} → statement M
+model-laws-spec = tie.close (tie.spec returns)

@@ -1,0 +1,88 @@
+-- The starred bench cases of document 01 ("Bench cases") as rows of one table. Assumes nothing.
+use Prim.Native.Nat.{ℕ, _+_, _*_}
+use mathlib.Core.Path.{_≡_}
+use mathlib.Core.Bool.{true}
+use mathlib.Core.List.{List, [], _∷_}
+use lib.ListN.{replicate}
+use Rattle.field.specs.Field.{times}
+use Rattle.field.specs.Sbox.{sbox}
+use Rattle.ctr.specs.CounterMode.{increment}
+use Rattle.model.specs.declared.Geometry.{Geometry}
+use Rattle.model.specs.declared.Session.{Session}
+use Rattle.model.specs.declared.Search.{Search}
+use Rattle.model.specs.declared.Search.the-variants.{Free, Bad, Full}
+use Rattle.model.specs.Geometry.{mapBlocks, headerBlocks, deviceLength, cellStart, blockStart}
+use Rattle.model.specs.Session.{held, unmapped, standing, asked, noKeys}
+use Rattle.model.specs.Write.{firstFree, claimOutcome, WriteResult}
+
+-- A geometry by its three numbers, and stick A of the document.
+abbrev pub sized : (b s p : ℕ) → Geometry
+sized b s p = record { b = b; s = s; p = p }
+
+abbrev pub stickA : Geometry
+stickA = sized 1024 4 4
+
+-- An open session on a geometry.
+abbrev pub session : Geometry → (k : ℕ) → Session
+session g k = record { geometry = g; k = k; keys = noKeys; opened = true }
+
+-- The refusal of a session on a device of n bytes, with tables that fit, and of an asked address over an unmapped entry.
+abbrev pub onDevice : Geometry → ℕ → ℕ
+onDevice g n = standing n (15 * g .p) (g .p) (session g 0) 0
+
+abbrev pub atAddress : Geometry → ℕ → ℕ
+atAddress g a = asked (replicate (15 * g .p) unmapped) (session g 0) 0 a (g .b)
+
+-- The answer of a claim with a permutation, the owners and a tape of 1,024 bytes: number, slice and places looked at.
+abbrev pub shown : WriteResult → List ℕ
+shown (WriteResult.Served change probes) = 0 ∷ probes ∷ []
+shown (WriteResult.Refused n probes) = n ∷ probes ∷ []
+
+abbrev pub sliceFound : Search → ℕ
+sliceFound (Free ψ place) = ψ
+sliceFound (Bad place) = unmapped
+sliceFound Full = unmapped
+
+abbrev pub claims : (owners perm : List ℕ) → List ℕ
+claims owners perm =
+    sliceFound (firstFree owners 4 0 perm)
+    ∷ shown (claimOutcome (held (replicate 60 unmapped) owners 0 (session stickA 0)) 0 0 0 [] (replicate 1024 0) (firstFree owners 4 0 perm) .answer)
+
+-- A case: what the definitions give, and what the document says.
+pub record Case : Type 0 where
+  pub given : List ℕ
+  pub says : List ℕ
+
+abbrev pub row : List ℕ → List ℕ → Case
+row given says = record { given = given; says = says }
+
+unfoldable pub cases : List Case
+cases =
+    -- A: m 1, H 31, 52,224 bytes; one byte fewer or more is 2.
+    row (mapBlocks stickA ∷ headerBlocks stickA ∷ deviceLength stickA ∷ onDevice stickA 52224 ∷ onDevice stickA 52223 ∷ onDevice stickA 52225 ∷ [])
+    (1 ∷ 31 ∷ 52224 ∷ 0 ∷ 2 ∷ 2 ∷ [])
+    -- B 1,024: P 252 has m 1; P 253 has m 2, H 46.
+    ∷ row (mapBlocks (sized 1024 4 252) ∷ mapBlocks (sized 1024 4 253) ∷ headerBlocks (sized 1024 4 253) ∷ []) (1 ∷ 2 ∷ 46 ∷ [])
+    -- B 4,096, S 256, P 4,096: m 5, H 91, 4,312,117,248 bytes.
+    ∷ row (mapBlocks (sized 4096 256 4096) ∷ headerBlocks (sized 4096 256 4096) ∷ deviceLength (sized 4096 256 4096) ∷ []) (5 ∷ 91 ∷ 4312117248 ∷ [])
+    -- Cell 14 is bytes 856 to 915.
+    ∷ row (cellStart 14 ∷ (cellStart 14 + 59) ∷ []) (856 ∷ 915 ∷ [])
+    -- A: slice 2, offset 3 is device block 45, byte 46,080.
+    ∷ row (blockStart stickA 2 3 ∷ (45 * 1024) ∷ []) (46080 ∷ 46080 ∷ [])
+    -- A: address 15 is served, 16 is 12.
+    ∷ row (atAddress stickA 15 ∷ atAddress stickA 16 ∷ []) (0 ∷ 12 ∷ [])
+    -- Permutation 2 0 3 1, owners free: slice 2, count 1.
+    ∷ row (claims (0 ∷ 0 ∷ 0 ∷ 0 ∷ []) (2 ∷ 0 ∷ 3 ∷ 1 ∷ [])) (2 ∷ 0 ∷ 1 ∷ [])
+    -- With 2, 0, 3 held: slice 1, count 4. All held: 22, count 4.
+    ∷ row (claims (1 ∷ 0 ∷ 1 ∷ 1 ∷ []) (2 ∷ 0 ∷ 3 ∷ 1 ∷ [])) (1 ∷ 0 ∷ 4 ∷ [])
+    ∷ row (claims (1 ∷ 1 ∷ 1 ∷ 1 ∷ []) (2 ∷ 0 ∷ 3 ∷ 1 ∷ [])) (unmapped ∷ 22 ∷ 4 ∷ [])
+    -- S-box: 00 to 63, 01 to 7c. Field: 57 times 83 is c1.
+    ∷ row (sbox 0x00 ∷ sbox 0x01 ∷ times 0x57 0x83 ∷ []) (0x63 ∷ 0x7c ∷ 0xc1 ∷ [])
+    -- Counter of 16 bytes FF, plus one: 16 bytes 00.
+    ∷ row (increment (replicate 16 0xFF)) (replicate 16 0x00)
+    ∷ []
+
+-- The claim: in every row the definitions give what the document says.
+abbrev pub AllHold : List Case → Type 0
+AllHold [] = Unit
+AllHold (c ∷ cs) = (c .given ≡ c .says) × AllHold cs

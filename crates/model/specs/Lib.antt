@@ -1,0 +1,11 @@
+pub mod Parts
+pub mod Geometry
+pub mod Session
+pub mod Conditions
+pub mod Opening
+pub mod Read
+pub mod Write
+pub mod Close
+pub mod Answers
+pub mod Theorems
+pub mod Bench

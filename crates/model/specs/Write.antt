@@ -1,0 +1,114 @@
+-- Write (document 01, "Write"). A write looks at no byte of the device, only at its length. Assumes nothing.
+use Prim.Native.Nat.{ℕ, zero, suc, _+_, _-_, _*_}
+use mathlib.Core.List.{List, [], _∷_, _++_}
+use mathlib.Core.Bool.{Bool, true, false, not}
+use lib.ListN.{length, getD, set, replicate, drop}
+use lib.Dec.{ltb, eqb}
+use Rattle.refusals.specs.Numbers.{refuse}
+use Rattle.ctr.specs.CounterMode.{ctr}
+use Rattle.model.specs.declared.Session.{Session}
+use Rattle.model.specs.declared.Change.{Change}
+use Rattle.model.specs.declared.Change.the-variants.{Claimed, Rewritten}
+use Rattle.model.specs.declared.Search.{Search}
+use Rattle.model.specs.declared.Search.the-variants.{Free, Bad, Full}
+use Rattle.model.specs.Parts.{choose, part, joined, Patch}
+use Rattle.model.specs.Geometry.{sliceStart, ivStart, blockStart}
+use Rattle.model.specs.Session.{Held, Outcome, geometry, keyOf, slot, sliceOf, offsetOf, entryOf, standing, asked, short, unless, idle}
+
+-- ---- the search of a claim
+
+-- A place: bad where it names no slice, found where its slice is free, else what the rest says.
+abbrev pub seen : (inside free : Bool) → (slice place : ℕ) → Search → Search
+seen false free slice place rest = Bad place
+seen true true slice place rest = Free slice place
+seen true false slice place rest = rest
+
+-- The first of the slices, which stand from a place on, whose owner is 0.
+unfoldable pub search : (owners : List ℕ) → (p place : ℕ) → (slices : List ℕ) → Search
+search owners p place [] = Full
+search owners p place (ψ ∷ slices) = seen (ltb ψ p) (eqb (getD owners ψ 0) 0) ψ place (search owners p (suc place) slices)
+
+-- The first free place of a permutation from a start on.
+unfoldable pub firstFree : (owners : List ℕ) → (p start : ℕ) → (perm : List ℕ) → Search
+firstFree owners p start perm = search owners p start (drop start perm)
+
+-- The place where a claim begins to look.
+abbrev pub startPlace : Session → ℕ
+startPlace s = 0
+
+-- The number of places looked at, up to a place, that one included.
+abbrev pub probesTo : Session → (place : ℕ) → ℕ
+probesTo s place = place + 1 - startPlace s
+
+-- ---- the outcomes
+
+-- The answer of a write: claimed or rewritten with its slice, and the number of places looked at; or the refusal with it.
+pub data WriteResult : Type 0 where
+  Served : Change → (probes : ℕ) → WriteResult
+  Refused : (number probes : ℕ) → WriteResult
+
+-- Mapped: 16 tape bytes become the IV of block j of slice ψ, and the ciphertext is stored over the old block.
+abbrev pub rewritten : Held → (i ψ j : ℕ) → (text tape : List ℕ) → Outcome WriteResult
+rewritten h i ψ j text tape =
+    record {
+      answer = Served (Rewritten ψ) 0;
+      patches =
+          record { at = ivStart (geometry h) ψ j; bytes = part (h .position) 16 tape }
+          ∷ record { at = blockStart (geometry h) ψ j; bytes = ctr (keyOf (h .session) i) (part (h .position) 16 tape) text }
+          ∷ [];
+      held = record { maps = h .maps; owners = h .owners; position = h .position + 16; session = h .session };
+    }
+
+-- A rewrite, or 21.
+abbrev pub rewriteOutcome : Held → (i ψ j : ℕ) → (text tape : List ℕ) → Outcome WriteResult
+rewriteOutcome h i ψ j text tape =
+    choose (short (length tape) (h .position) 16) (idle h (Refused 21 0)) (rewritten h i ψ j text tape)
+
+-- The bytes of a claimed slice: the IV block, then S data blocks under their IVs, zeros but for block j.
+unfoldable pub claimedBytes : (b s : ℕ) → (key ivs : List ℕ) → (j : ℕ) → (text : List ℕ) → List ℕ
+claimedBytes b s key ivs j text = ivs ++ joined s (λ n. ctr key (part (16 * n) 16 ivs) (choose (eqb n j) text (replicate b 0)))
+
+-- Unmapped: slice ψ, found at a place, is claimed for logical slice σ of volume i. Its owner is set in the same call that
+-- found it free, so that no later claim can find it free.
+abbrev pub claimed : Held → (i σ j ψ place : ℕ) → (text tape : List ℕ) → Outcome WriteResult
+claimed h i σ j ψ place text tape =
+    record {
+      answer = Served (Claimed ψ) (probesTo (h .session) place);
+      patches =
+          record {
+            at = sliceStart (geometry h) ψ;
+            bytes = claimedBytes (geometry h .b) (geometry h .s) (keyOf (h .session) i) (part (h .position) (geometry h .b) tape) j text;
+          }
+          ∷ [];
+      held =
+          record {
+            maps = set (h .maps) (slot (geometry h) i σ) ψ;
+            owners = set (h .owners) ψ (i + 1);
+            position = h .position + geometry h .b;
+            session = h .session;
+          };
+    }
+
+-- A claim from what its search found: 5, 22, 21 with the places looked at, or the slice.
+abbrev pub claimOutcome : Held → (i σ j : ℕ) → (text tape : List ℕ) → Search → Outcome WriteResult
+claimOutcome h i σ j text tape (Bad place) = idle h (Refused 5 (probesTo (h .session) place))
+claimOutcome h i σ j text tape Full = idle h (Refused 22 (geometry h .p - startPlace (h .session)))
+claimOutcome h i σ j text tape (Free ψ place) =
+    choose (short (length tape) (h .position) (geometry h .b)) (idle h (Refused 21 (probesTo (h .session) place)))
+    (claimed h i σ j ψ place text tape)
+
+-- ---- the call
+
+-- 20, 2, 4, 5 (length), 11, 12, 13, 9.
+unfoldable pub writeRefusal : (device : ℕ) → (maps owners : List ℕ) → Session → (i a len perm : ℕ) → ℕ
+writeRefusal device maps owners s i a len perm =
+    standing device (length maps) (length owners) s (refuse (not (eqb perm (s .geometry .p))) 5 (asked maps s i a len))
+
+-- Write of block address a of volume i, on a device of so many bytes.
+unfoldable pub writeModel : (device : ℕ) → Held → (i a : ℕ) → (text perm tape : List ℕ) → Outcome WriteResult
+writeModel device h i a text perm tape =
+    unless (writeRefusal device (h .maps) (h .owners) (h .session) i a (length text) (length perm)) (λ n. idle h (Refused n 0))
+    (choose (ltb (entryOf (h .maps) (geometry h) i a) (geometry h .p))
+    (rewriteOutcome h i (entryOf (h .maps) (geometry h) i a) (offsetOf (geometry h) a) text tape)
+    (claimOutcome h i (sliceOf (geometry h) a) (offsetOf (geometry h) a) text tape
+    (firstFree (h .owners) (geometry h .p) (startPlace (h .session)) perm)))

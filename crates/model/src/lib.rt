@@ -1,0 +1,81 @@
+// The types that the engine's calls speak of. What each call answers and leaves stands in specs/, in the order of
+// document 01; nothing here runs.
+ghost use Rattle.model.specs.Theorems.{ModelLaws};
+ghost use Rattle.model.specs.Bench.{cases, AllHold};
+use refusals::Answer;
+use refusals::Refusal;
+
+// The geometry of a device (document 01, "Geometry of a stick"): b is B, the bytes in a block; s is S, the data blocks in
+// a slice; p is P, the physical slices.
+pub struct Geometry {
+    pub b: usize,
+    pub s: usize,
+    pub p: usize,
+}
+
+// A session, handed in and back: its geometry, the opened volume k, 15 data keys of 32 bytes end to end, open or closed.
+pub struct Session {
+    pub geometry: Geometry,
+    pub k: usize,
+    pub keys: [u8; 480],
+    pub opened: bool,
+}
+
+// The position of the next unused tape byte (document 01 calls it the tape mark).
+pub struct TapePosition {
+    pub at: usize,
+}
+
+// How a served write changed the device: the slice that it claimed or rewrote.
+pub enum Change {
+    Claimed(usize),
+    Rewritten(usize),
+}
+
+// The answer of a write, with the number of places looked at.
+pub enum WriteAnswer {
+    Served { change: Change, probes: usize },
+    Refused { refusal: Refusal, probes: usize },
+}
+
+// The answer of an opening: the opened volume k, or the refusal.
+pub enum OpenAnswer {
+    Opened(usize),
+    Refused(Refusal),
+}
+
+// What an opening hands back.
+pub struct Opening {
+    pub answer: OpenAnswer,
+    pub session: Session,
+}
+
+// What a write hands back.
+pub struct Written {
+    pub answer: WriteAnswer,
+    pub session: Session,
+}
+
+// What a read or a close hands back.
+pub struct Reply {
+    pub answer: Answer,
+    pub session: Session,
+}
+
+// What the search of a claim finds: the first place of the permutation whose slice is free, a place that names no slice
+// before it, or neither.
+pub enum Search {
+    Free { slice: usize, place: usize },
+    Bad(usize),
+    Full,
+}
+
+// The laws of the definitions: nothing runs, and the check has to prove them.
+pub fn model_laws()
+    ensures { λ r. ⌜ ModelLaws ⌝ }
+{}
+
+// The starred bench cases of document 01.
+pub fn bench_cases()
+    ensures { λ r. ⌜ AllHold cases ⌝ }
+{}
