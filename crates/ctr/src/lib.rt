@@ -90,8 +90,10 @@ pub fn ctr_into(key: &[u8], iv: &[u8], text: &[u8], out: &mut [u8])
 
 // Counter mode of a text of 0 to 4,096 bytes, or refusal 3 or 13, by which the output stays as it was.
 pub fn counter_mode(key: &[u8], iv: &[u8], text: &[u8], out: &mut [u8]) -> Answer
-    ensures answer { λ r. ⌜ answerNumber r ≡ ctrRefusal (length (now (key .entry))) (length (now (iv .entry))) (length (now (text .entry))) (length (now (out .entry))) ⌝ }
-    ensures output { λ r. ⌜ now (out .exit) ≡ unlessRefused (answerNumber r) (ctr (now (key .entry)) (now (iv .entry)) (now (text .entry))) (now (out .entry)) ⌝ }
+    ensures answer { λ r. ⌜ answerNumber r ≡ ctrRefusal (length (now (key .entry))) (length (now (iv .entry))) (length (now (text .entry)))
+        (length (now (out .entry))) ⌝ }
+    ensures output { λ r. ⌜ now (out .exit) ≡ unlessRefused (answerNumber r) (ctr (now (key .entry)) (now (iv .entry)) (now (text .entry)))
+        (now (out .entry)) ⌝ }
 {
     if key.len() != 32 {
         return Answer::Refused(Refusal::KeyLength);

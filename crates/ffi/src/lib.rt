@@ -15,7 +15,8 @@ ghost use Rattle.ffi.specs.From.{fromRefusal};
 // Counter mode: key 32 bytes, IV 16, text 0 to 4,096, output as long as the text. Refusals 3, 13.
 #[no_mangle]
 pub extern "C" fn hiwalgam_counter_mode(key: &[u8], iv: &[u8], text: &[u8], out: &mut [u8]) -> u8
-    ensures answer { λ r. ⌜ r ≡ ctrRefusal (length (now (key .entry))) (length (now (iv .entry))) (length (now (text .entry))) (length (now (out .entry))) ⌝ }
+    ensures answer { λ r. ⌜ r ≡ ctrRefusal (length (now (key .entry))) (length (now (iv .entry))) (length (now (text .entry)))
+        (length (now (out .entry))) ⌝ }
     ensures output { λ r. ⌜ now (out .exit) ≡ unlessRefused r (ctr (now (key .entry)) (now (iv .entry)) (now (text .entry))) (now (out .entry)) ⌝ }
 {
     refusals::answer_number(ctr::counter_mode(key, iv, text, out))
@@ -31,8 +32,10 @@ pub extern "C" fn hiwalgam_keystream_at(
     text: &[u8],
     out: &mut [u8],
 ) -> u8
-    ensures answer { λ r. ⌜ r ≡ fromRefusal (length (now (key .entry))) (length (now (iv .entry))) (length (now (text .entry))) (length (now (out .entry))) position ⌝ }
-    ensures output { λ r. ⌜ now (out .exit) ≡ unlessRefused r (ctrFrom (now (key .entry)) (now (iv .entry)) position (now (text .entry))) (now (out .entry)) ⌝ }
+    ensures answer { λ r. ⌜ r ≡ fromRefusal (length (now (key .entry))) (length (now (iv .entry))) (length (now (text .entry)))
+        (length (now (out .entry))) position ⌝ }
+    ensures output { λ r. ⌜ now (out .exit) ≡ unlessRefused r (ctrFrom (now (key .entry)) (now (iv .entry)) position (now (text .entry)))
+        (now (out .entry)) ⌝ }
 {
     if key.len() != 32 {
         return 3;
@@ -64,9 +67,12 @@ pub extern "C" fn hiwalgam_gcm_seal(
     out: &mut [u8],
     tag: &mut [u8],
 ) -> u8
-    ensures answer { λ r. ⌜ r ≡ sealRefusal (now (key .entry)) (now (iv .entry)) (now (aad .entry)) (now (text .entry)) (now (tag .entry)) (now (out .entry)) ⌝ }
-    ensures output { λ r. ⌜ now (out .exit) ≡ unlessRefused r (gcmText (now (key .entry)) (now (iv .entry)) (now (text .entry))) (now (out .entry)) ⌝ }
-    ensures tag { λ r. ⌜ now (tag .exit) ≡ unlessRefused r (gcmTag (now (key .entry)) (now (iv .entry)) (now (aad .entry)) (gcmText (now (key .entry)) (now (iv .entry)) (now (text .entry)))) (now (tag .entry)) ⌝ }
+    ensures answer { λ r. ⌜ r ≡ sealRefusal (now (key .entry)) (now (iv .entry)) (now (aad .entry)) (now (text .entry)) (now (tag .entry))
+        (now (out .entry)) ⌝ }
+    ensures output { λ r. ⌜ now (out .exit) ≡ unlessRefused r (gcmText (now (key .entry)) (now (iv .entry)) (now (text .entry)))
+        (now (out .entry)) ⌝ }
+    ensures tag { λ r. ⌜ now (tag .exit) ≡ unlessRefused r (gcmTag (now (key .entry)) (now (iv .entry)) (now (aad .entry))
+        (gcmText (now (key .entry)) (now (iv .entry)) (now (text .entry)))) (now (tag .entry)) ⌝ }
 {
     refusals::answer_number(gcm::seal(key, iv, aad, text, out, tag))
 }
@@ -81,8 +87,10 @@ pub extern "C" fn hiwalgam_gcm_open(
     tag: &[u8],
     out: &mut [u8],
 ) -> u8
-    ensures answer { λ r. ⌜ r ≡ openRefusal (now (key .entry)) (now (iv .entry)) (now (aad .entry)) (now (text .entry)) (now (tag .entry)) (now (out .entry)) ⌝ }
-    ensures output { λ r. ⌜ now (out .exit) ≡ unlessRefused r (gcmText (now (key .entry)) (now (iv .entry)) (now (text .entry))) (now (out .entry)) ⌝ }
+    ensures answer { λ r. ⌜ r ≡ openRefusal (now (key .entry)) (now (iv .entry)) (now (aad .entry)) (now (text .entry)) (now (tag .entry))
+        (now (out .entry)) ⌝ }
+    ensures output { λ r. ⌜ now (out .exit) ≡ unlessRefused r (gcmText (now (key .entry)) (now (iv .entry)) (now (text .entry)))
+        (now (out .entry)) ⌝ }
 {
     refusals::answer_number(gcm::open(key, iv, aad, text, tag, out))
 }

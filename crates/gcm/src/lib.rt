@@ -108,7 +108,8 @@ pub fn seal_into(key: &[u8], iv: &[u8], aad: &[u8], text: &[u8], out: &mut [u8],
     requires { ⌜ length (now out) ≡ length (now text) ⌝ }
     requires { ⌜ length (now tag) ≡ 16 ⌝ }
     ensures output { λ r. ⌜ now (out .exit) ≡ gcmText (now (key .entry)) (now (iv .entry)) (now (text .entry)) ⌝ }
-    ensures tag { λ r. ⌜ now (tag .exit) ≡ gcmTag (now (key .entry)) (now (iv .entry)) (now (aad .entry)) (gcmText (now (key .entry)) (now (iv .entry)) (now (text .entry))) ⌝ }
+    ensures tag { λ r. ⌜ now (tag .exit) ≡ gcmTag (now (key .entry)) (now (iv .entry)) (now (aad .entry))
+        (gcmText (now (key .entry)) (now (iv .entry)) (now (text .entry))) ⌝ }
 {
     let t = field::sbox_table();
     let w = aes::key_expansion(&t, key);
@@ -127,7 +128,8 @@ pub fn open_into(key: &[u8], iv: &[u8], aad: &[u8], text: &[u8], tag: &[u8], out
     requires { ⌜ length (now tag) ≡ 16 ⌝ }
     requires { ⌜ length (now out) ≡ length (now text) ⌝ }
     ensures right { λ r. ⌜ r ≡ same (gcmTag (now (key .entry)) (now (iv .entry)) (now (aad .entry)) (now (text .entry))) (now (tag .entry)) ⌝ }
-    ensures output { λ r. ⌜ now (out .exit) ≡ openedOver (gcmOpen (now (key .entry)) (now (iv .entry)) (now (aad .entry)) (now (text .entry)) (now (tag .entry))) (now (out .entry)) ⌝ }
+    ensures output { λ r. ⌜ now (out .exit) ≡ openedOver (gcmOpen (now (key .entry)) (now (iv .entry)) (now (aad .entry)) (now (text .entry))
+        (now (tag .entry))) (now (out .entry)) ⌝ }
 {
     let t = field::sbox_table();
     let w = aes::key_expansion(&t, key);
@@ -149,9 +151,13 @@ pub fn seal(
     out: &mut [u8],
     tag: &mut [u8],
 ) -> Answer
-    ensures answer { λ r. ⌜ answerNumber r ≡ sealRefusal (now (key .entry)) (now (iv .entry)) (now (aad .entry)) (now (text .entry)) (now (tag .entry)) (now (out .entry)) ⌝ }
-    ensures output { λ r. ⌜ now (out .exit) ≡ unlessRefused (answerNumber r) (gcmText (now (key .entry)) (now (iv .entry)) (now (text .entry))) (now (out .entry)) ⌝ }
-    ensures tag { λ r. ⌜ now (tag .exit) ≡ unlessRefused (answerNumber r) (gcmTag (now (key .entry)) (now (iv .entry)) (now (aad .entry)) (gcmText (now (key .entry)) (now (iv .entry)) (now (text .entry)))) (now (tag .entry)) ⌝ }
+    ensures answer { λ r. ⌜ answerNumber r ≡ sealRefusal (now (key .entry)) (now (iv .entry)) (now (aad .entry)) (now (text .entry))
+        (now (tag .entry)) (now (out .entry)) ⌝ }
+    ensures output { λ r. ⌜ now (out .exit) ≡ unlessRefused (answerNumber r) (gcmText (now (key .entry)) (now (iv .entry)) (now (text .entry)))
+        (now (out .entry)) ⌝ }
+    ensures tag { λ r. ⌜ now (tag .exit) ≡ unlessRefused (answerNumber r)
+        (gcmTag (now (key .entry)) (now (iv .entry)) (now (aad .entry)) (gcmText (now (key .entry)) (now (iv .entry)) (now (text .entry))))
+        (now (tag .entry)) ⌝ }
 {
     if key.len() != 32 {
         return Answer::Refused(Refusal::KeyLength);
@@ -177,8 +183,10 @@ pub fn seal(
 
 // A ciphertext of 0 to 256 bytes opened, or refusal 3, 13 or 15, by which the output stays as it was.
 pub fn open(key: &[u8], iv: &[u8], aad: &[u8], text: &[u8], tag: &[u8], out: &mut [u8]) -> Answer
-    ensures answer { λ r. ⌜ answerNumber r ≡ openRefusal (now (key .entry)) (now (iv .entry)) (now (aad .entry)) (now (text .entry)) (now (tag .entry)) (now (out .entry)) ⌝ }
-    ensures output { λ r. ⌜ now (out .exit) ≡ unlessRefused (answerNumber r) (gcmText (now (key .entry)) (now (iv .entry)) (now (text .entry))) (now (out .entry)) ⌝ }
+    ensures answer { λ r. ⌜ answerNumber r ≡ openRefusal (now (key .entry)) (now (iv .entry)) (now (aad .entry)) (now (text .entry))
+        (now (tag .entry)) (now (out .entry)) ⌝ }
+    ensures output { λ r. ⌜ now (out .exit) ≡ unlessRefused (answerNumber r) (gcmText (now (key .entry)) (now (iv .entry)) (now (text .entry)))
+        (now (out .entry)) ⌝ }
 {
     if key.len() != 32 {
         return Answer::Refused(Refusal::KeyLength);
