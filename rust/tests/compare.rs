@@ -2,88 +2,11 @@
 //! sets another seed. Each buffer stands between guard bytes, and each call is judged by the whole
 //! of every buffer, guards included.
 
-use std::env;
-use std::ops::{Deref, DerefMut};
-
+use hiwalgam_tests::inputs::{Guarded, Random};
 use hiwalgam_tests::{
     Ciphers, CTR_TEXT_LIMIT, GCM_AAD_LIMIT, GCM_TEXT_LIMIT, LIBRARY, PLAIN, POSITION_LIMIT, SERVED,
     WRONG_KEY, WRONG_LENGTH, WRONG_TAG,
 };
-
-// ---- inputs
-
-/// The SplitMix64 generator.
-struct Random(u64);
-
-impl Random {
-    /// Prints the seed, which the test harness shows where the test fails.
-    fn new() -> Self {
-        let seed = match env::var("HIWALGAM_SEED") {
-            Ok(text) => text.parse().expect("HIWALGAM_SEED is a number"),
-            Err(_) => 20_260_101,
-        };
-        println!("HIWALGAM_SEED={seed}");
-        Random(seed)
-    }
-
-    fn next(&mut self) -> u64 {
-        self.0 = self.0.wrapping_add(0x9e37_79b9_7f4a_7c15);
-        let z = (self.0 ^ (self.0 >> 30)).wrapping_mul(0xbf58_476d_1ce4_e5b9);
-        let z = (z ^ (z >> 27)).wrapping_mul(0x94d0_49bb_1331_11eb);
-        z ^ (z >> 31)
-    }
-
-    /// A number below `bound`.
-    fn below(&mut self, bound: usize) -> usize {
-        (self.next() % bound as u64) as usize
-    }
-
-    fn bytes(&mut self, len: usize) -> Guarded {
-        let bytes: Vec<u8> = (0..len).map(|_| self.next() as u8).collect();
-        Guarded::new(&bytes)
-    }
-}
-
-/// Guard bytes on each side of a buffer.
-const GUARD: usize = 64;
-
-/// A buffer that dereferences to its content, between guard bytes. Two are equal where the content
-/// and the guards are.
-#[derive(Clone, PartialEq)]
-struct Guarded(Vec<u8>);
-
-impl Guarded {
-    fn new(content: &[u8]) -> Self {
-        Guarded([&pattern(GUARD), content, &pattern(GUARD)].concat())
-    }
-
-    /// A buffer that is to be written.
-    fn blank(len: usize) -> Self {
-        Guarded::new(&pattern(len))
-    }
-}
-
-impl Deref for Guarded {
-    type Target = [u8];
-
-    fn deref(&self) -> &[u8] {
-        &self.0[GUARD..self.0.len() - GUARD]
-    }
-}
-
-impl DerefMut for Guarded {
-    fn deref_mut(&mut self) -> &mut [u8] {
-        let end = self.0.len() - GUARD;
-        &mut self.0[GUARD..end]
-    }
-}
-
-/// Bytes that differ from place to place.
-fn pattern(len: usize) -> Vec<u8> {
-    (0..len)
-        .map(|i| (i as u8).wrapping_mul(37) ^ 0xa5)
-        .collect()
-}
 
 // ---- calls
 
@@ -243,7 +166,7 @@ const CARRIES: [(u128, u128); 4] = [
 
 #[test]
 fn blocks() {
-    let mut random = Random::new();
+    let mut random = Random::seeded();
     for _ in 0..2000 {
         let mut arguments = Arguments::right(&mut random, EncryptBlock);
         assert_eq!(run(EncryptBlock, &mut arguments), SERVED);
@@ -254,7 +177,7 @@ fn blocks() {
 
 #[test]
 fn counter_mode_lengths() {
-    let mut random = Random::new();
+    let mut random = Random::seeded();
     let edges = (320..=CTR_TEXT_LIMIT)
         .step_by(16)
         .flat_map(|edge| [edge - 1, edge, edge + 1]);
@@ -275,7 +198,7 @@ fn counter_mode_lengths() {
 
 #[test]
 fn counter_mode_carries() {
-    let mut random = Random::new();
+    let mut random = Random::seeded();
     for (last, next) in CARRIES {
         // Two blocks of zeros give the two encrypted counters.
         let mut arguments = Arguments::ctr(&mut random, 32);
@@ -303,7 +226,7 @@ fn counter_mode_carries() {
 
 #[test]
 fn keystream_from_each_byte() {
-    let mut random = Random::new();
+    let mut random = Random::seeded();
     for (last, _) in CARRIES {
         // The counter carries after the third block.
         let mut whole = Arguments::ctr(&mut random, 250);
@@ -325,7 +248,7 @@ fn keystream_from_each_byte() {
 
 #[test]
 fn keystream_lengths() {
-    let mut random = Random::new();
+    let mut random = Random::seeded();
     for len in (0..=300).chain([4079, 4080, 4081, 4095, 4096, 4097, 4112]) {
         for position in [0, 1, 15, 16, 17, (1 << 32) - 1, POSITION_LIMIT] {
             let mut arguments = Arguments::ctr(&mut random, len);
@@ -338,7 +261,7 @@ fn keystream_lengths() {
 
 #[test]
 fn keystream_at_far_positions() {
-    let mut random = Random::new();
+    let mut random = Random::seeded();
     // 2^36 is where the number of the block passes 32 bits.
     let around = [1u64 << 16, 1 << 31, 1 << 32, 1 << 35, 1 << 36, 1 << 39];
     let positions = around
@@ -373,7 +296,7 @@ fn keystream_at_far_positions() {
 
 #[test]
 fn gcm_lengths() {
-    let mut random = Random::new();
+    let mut random = Random::seeded();
     for text_len in 0..=GCM_TEXT_LIMIT + 1 {
         for aad_len in 0..=GCM_AAD_LIMIT + 1 {
             let mut sealed = Arguments::gcm(&mut random, text_len, aad_len);
@@ -410,7 +333,7 @@ fn served_openings(random: &mut Random) -> Vec<Arguments> {
 
 #[test]
 fn damaged_tags() {
-    let mut random = Random::new();
+    let mut random = Random::seeded();
     for opening in served_openings(&mut random) {
         for i in 0..16 {
             // Each bit of each byte alone, and every bit of the byte.
@@ -436,7 +359,7 @@ fn damaged_tags() {
 
 #[test]
 fn damaged_messages() {
-    let mut random = Random::new();
+    let mut random = Random::seeded();
     type Field = fn(&mut Arguments) -> &mut Guarded;
     let fields: [(&str, Field); 4] = [
         ("key", |arguments| &mut arguments.key),
@@ -569,7 +492,7 @@ fn refusal(wrong: &[Argument]) -> u8 {
 
 #[test]
 fn each_wrong_length() {
-    let mut random = Random::new();
+    let mut random = Random::seeded();
     for call in CALLS {
         let right = Arguments::right(&mut random, call);
         assert_eq!(run(call, &mut right.clone()), SERVED);
@@ -592,7 +515,7 @@ fn each_wrong_length() {
 
 #[test]
 fn several_wrong_lengths() {
-    let mut random = Random::new();
+    let mut random = Random::seeded();
     for call in CALLS {
         let all = arguments_of(call);
         // Every set of two arguments or more, 40 times with other values.
@@ -623,7 +546,7 @@ fn several_wrong_lengths() {
 
 #[test]
 fn wrong_lengths_before_wrong_tags() {
-    let mut random = Random::new();
+    let mut random = Random::seeded();
     for _ in 0..200 {
         let mut damaged = Arguments::right(&mut random, Open);
         damaged.tag[random.below(16)] ^= 1;

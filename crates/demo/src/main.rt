@@ -1,72 +1,401 @@
-// A demonstration of the proved ciphers: counter mode and GCM on published examples, printed in hexadecimal.
-ghost use Prim.Native.Nat.{_<_};
+// A demonstration of the engine: a small device image with two volumes is made, opened, written, read, closed and opened
+// again, and every answer is printed. Keys, IVs and tape are fixed bytes here, so that each run prints the same; a real
+// device draws them at random.
+ghost use mathlib.Core.Path.{_≡_};
+ghost use Prim.Native.Nat.{_+_, _*_, _≤_, _<_};
+ghost use lib.ListN.{length};
 use libc::STDOUT_FILENO;
+use model::Change;
+use model::Geometry;
+use model::OpenAnswer;
+use model::Session;
+use model::WriteAnswer;
+use refusals::Answer;
 
-fn digit(d: u8) -> u8
-    requires { ⌜ d < 16 ⌝ }
-{
-    if d < 10 { b'0' + d } else { b'a' + (d - 10) }
+// ---- printing
+
+fn say(text: &[u8]) {
+    io::write_all(STDOUT_FILENO, text);
 }
 
-// The bytes in hexadecimal.
-fn print_hex(bytes: &[u8]) {
+fn say_number(n: usize) {
+    io::print_decimal(STDOUT_FILENO, n as u64);
+}
+
+fn say_open(answer: OpenAnswer) {
+    match answer {
+        OpenAnswer::Opened(k) => {
+            say(b"opened to volume ");
+            say_number(k);
+        }
+        OpenAnswer::Refused(r) => {
+            say(b"refused, ");
+            say_number(refusals::refusal_number(r) as usize);
+        }
+    }
+    say(b"\n");
+}
+
+fn say_write(answer: WriteAnswer, position: usize) {
+    match answer {
+        WriteAnswer::Served { change, probes } => {
+            match change {
+                Change::Claimed(slice) => {
+                    say(b"claimed slice ");
+                    say_number(slice);
+                }
+                Change::Rewritten(slice) => {
+                    say(b"rewrote slice ");
+                    say_number(slice);
+                }
+            }
+            say(b", places looked at ");
+            say_number(probes);
+        }
+        WriteAnswer::Refused { refusal, probes } => {
+            say(b"refused, ");
+            say_number(refusals::refusal_number(refusal) as usize);
+            say(b", places looked at ");
+            say_number(probes);
+        }
+    }
+    say(b", tape position ");
+    say_number(position);
+    say(b"\n");
+}
+
+fn say_answer(answer: Answer) {
+    match answer {
+        Answer::Served => say(b"served"),
+        Answer::Refused(r) => {
+            say(b"refused, ");
+            say_number(refusals::refusal_number(r) as usize);
+        }
+    }
+}
+
+// ---- the image
+
+// The geometry of the image: B 1,024, S 4, P 4; 52,224 bytes.
+fn geometry() -> Geometry {
+    Geometry {
+        b: 1024,
+        s: 4,
+        p: 4,
+    }
+}
+
+// The caller's key, the VMK and the VEK of volume 0 or 1.
+fn caller_key(i: usize) -> [u8; 32] {
+    [(1 + i % 2) as u8; 32]
+}
+
+fn master_key(i: usize) -> [u8; 32] {
+    [(64 + i % 2) as u8; 32]
+}
+
+fn data_key(i: usize) -> [u8; 32] {
+    [(128 + i % 2) as u8; 32]
+}
+
+// Key cell i: the VMK sealed under the caller's key.
+fn make_cell(device: &mut [u8], i: usize)
+    requires { ⌜ (i < 2) × (length (now device) ≡ 52224) ⌝ }
+{
+    let iv = [(10 + i % 2) as u8; 12];
+    let aad = [(i % 2) as u8];
+    let mut sealed = [0u8; 32];
+    let mut tag = [0u8; 16];
+    gcm::seal(
+        &caller_key(i),
+        &iv,
+        &aad,
+        &master_key(i),
+        &mut sealed,
+        &mut tag,
+    );
+    let at = 16 + 60 * i;
+    places::store(device, at, &iv);
+    places::store(device, at + 12, &sealed);
+    places::store(device, at + 44, &tag);
+}
+
+// The text of header i: VEK, VMK of the volume below, P, S.
+fn header_text(i: usize) -> [u8; 72]
+    requires { ⌜ i < 2 ⌝ }
+{
+    let mut text = [0u8; 72];
+    places::store(&mut text, 0, &data_key(i));
+    places::store(&mut text, 32, &master_key(i + 1));
+    places::put_number(&mut text, 64, 4);
+    places::put_number(&mut text, 68, 4);
+    text
+}
+
+// Volume header i, sealed under its VMK.
+fn make_header(device: &mut [u8], i: usize)
+    requires { ⌜ (i < 2) × (length (now device) ≡ 52224) ⌝ }
+{
+    let iv = [(20 + i % 2) as u8; 12];
+    let aad = [(16 + i % 2) as u8];
+    let mut sealed = [0u8; 72];
+    let mut tag = [0u8; 16];
+    gcm::seal(
+        &master_key(i),
+        &iv,
+        &aad,
+        &header_text(i),
+        &mut sealed,
+        &mut tag,
+    );
+    let at = 1024 + 2048 * i;
+    places::store(device, at, &iv);
+    places::store(device, at + 12, &sealed);
+    places::store(device, at + 84, &tag);
+}
+
+// The map block of volume i: all entries unmapped.
+fn make_map(device: &mut [u8], i: usize)
+    requires { ⌜ (i < 2) × (length (now device) ≡ 52224) ⌝ }
+{
+    let iv = [(30 + i % 2) as u8; 16];
+    let marks = [255u8; 1008];
+    let at = 2048 + 2048 * i;
+    places::store(device, at, &iv);
+    let from = at + 16;
+    let end = at + 1024;
+    ctr::counter_mode(&data_key(i), &iv, &marks, &mut device[from..end]);
+}
+
+// Bytes that differ from place to place: noise for the image, and the tape.
+fn fill(bytes: &mut [u8]) {
     let mut i = 0;
     while i < bytes.len() {
-        let b = bytes[i];
-        let pair = [digit(b / 16), digit(b % 16)];
-        io::write_all(STDOUT_FILENO, &pair);
+        bytes[i] = (i % 251) as u8;
         i += 1;
     }
 }
 
-fn print_line(bytes: &[u8]) {
-    print_hex(bytes);
-    io::write_all(STDOUT_FILENO, b"\n");
+fn make_image(device: &mut [u8])
+    requires { ⌜ length (now device) ≡ 52224 ⌝ }
+{
+    fill(device);
+    make_cell(device, 0);
+    make_cell(device, 1);
+    make_header(device, 0);
+    make_header(device, 1);
+    make_map(device, 0);
+    make_map(device, 1);
 }
 
-fn print_answer(name: &[u8], answer: u8) {
-    io::write_all(STDOUT_FILENO, name);
-    io::write_all(STDOUT_FILENO, b", answer ");
-    io::print_decimal(STDOUT_FILENO, answer as u64);
-    io::write_all(STDOUT_FILENO, b": ");
+// ---- the calls
+
+fn show_open(
+    device: &[u8],
+    key: usize,
+    maps: &mut [u32],
+    owners: &mut [u8],
+    perm: &[u32],
+) -> Session {
+    say(b"open with key ");
+    say_number(key);
+    say(b": ");
+    let o = opening::open(device, geometry(), &caller_key(key), maps, owners, perm);
+    let answer = o.answer;
+    say_open(answer);
+    let session = o.session;
+    session
 }
 
-// SP 800-38A, F.5.5: the first block.
-fn show_counter_mode() {
-    let key =
-        b"\x60\x3d\xeb\x10\x15\xca\x71\xbe\x2b\x73\xae\xf0\x85\x7d\x77\x81\x1f\x35\x2c\x07\x3b\x61\x08\xd7\x2d\x98\x10\xa3\x09\x14\xdf\xf4";
-    let iv = b"\xf0\xf1\xf2\xf3\xf4\xf5\xf6\xf7\xf8\xf9\xfa\xfb\xfc\xfd\xfe\xff";
-    let text = b"\x6b\xc1\xbe\xe2\x2e\x40\x9f\x96\xe9\x3d\x7e\x11\x73\x93\x17\x2a";
-    let mut out = [0u8; 16];
-    let answer = ctr::counter_mode(key, iv, text, &mut out);
-    print_answer(b"counter mode", refusals::answer_number(answer));
-    print_line(&out);
+fn show_read(
+    device: &[u8],
+    maps: &[u32],
+    owners: &[u8],
+    session: Session,
+    volume: usize,
+    buf: &mut [u8],
+) {
+    say(b"read block 5 of volume ");
+    say_number(volume);
+    say(b": ");
+    let r = reading::read(device, maps, owners, session, volume, 5, buf);
+    let answer = r.answer;
+    say_answer(answer);
+    say(b"\n");
 }
 
-// Test case 14 of the GCM specification, sealed, opened again, and opened with a damaged tag.
-fn show_gcm() {
-    let key = [0u8; 32];
-    let iv = [0u8; 12];
-    let text = [0u8; 16];
-    let mut sealed = [0u8; 16];
-    let mut tag = [0u8; 16];
-    let answer = gcm::seal(&key, &iv, b"", &text, &mut sealed, &mut tag);
-    print_answer(b"sealing", refusals::answer_number(answer));
-    print_line(&sealed);
-    let mut opened = [0xffu8; 16];
-    let again = gcm::open(&key, &iv, b"", &sealed, &tag, &mut opened);
-    print_answer(b"opening", refusals::answer_number(again));
-    print_line(&opened);
-    let mut kept = [0xffu8; 16];
-    let refused = gcm::open(&key, &iv, b"", &sealed, &sealed, &mut kept);
-    print_answer(
-        b"opening with a wrong tag",
-        refusals::answer_number(refused),
+// The first bytes of a block that was read.
+fn show_bytes(buf: &[u8]) {
+    if 16 <= buf.len() {
+        say(b"  the buffer begins: ");
+        let mut i = 0;
+        while i < 16 {
+            say_number(buf[i] as usize);
+            say(b" ");
+            i += 1;
+        }
+        say(b"\n");
+    }
+}
+
+fn show_write(
+    device: &mut [u8],
+    maps: &mut [u32],
+    owners: &mut [u8],
+    perm: &[u32],
+    tape: &[u8],
+    at: &mut usize,
+    session: Session,
+    volume: usize,
+    text: &[u8],
+) {
+    say(b"write block 5 of volume ");
+    say_number(volume);
+    say(b": ");
+    let w = writing::write_by(
+        device,
+        maps,
+        owners,
+        perm,
+        tape,
+        at,
+        session,
+        volume,
+        5,
+        text,
     );
-    print_line(&kept);
+    let position = *at;
+    let answer = w.answer;
+    say_write(answer, position);
+}
+
+// A device opened with a key, and block 5 of volume 1 read.
+fn show_look(
+    device: &[u8],
+    key: usize,
+    maps: &mut [u32],
+    owners: &mut [u8],
+    perm: &[u32],
+    block: &mut [u8],
+) -> Session {
+    let session = show_open(device, key, maps, owners, perm);
+    show_read(device, maps, owners, session, 1, block);
+    show_bytes(block);
+    session
+}
+
+// Block 5 of a volume written twice.
+fn show_writes(
+    device: &mut [u8],
+    maps: &mut [u32],
+    owners: &mut [u8],
+    perm: &[u32],
+    tape: &[u8],
+    at: &mut usize,
+    session: Session,
+    volume: usize,
+    text: &[u8],
+) {
+    show_write(device, maps, owners, perm, tape, at, session, volume, text);
+    show_write(device, maps, owners, perm, tape, at, session, volume, text);
+}
+
+fn show_find(device: &[u8], maps: &[u32], owners: &[u8], session: Session) {
+    say(b"find block 5 of volume 1: a part of ");
+    say_number(reading::find(device, maps, owners, session, 1, 5).len());
+    say(b" bytes\n");
+}
+
+fn show_close(
+    device: &mut [u8],
+    maps: &mut [u32],
+    owners: &mut [u8],
+    tape: &[u8],
+    at: &mut usize,
+    session: Session,
+) -> Session {
+    say(b"close: ");
+    let r = closing::close_by(device, maps, owners, tape, at, session);
+    let answer = r.answer;
+    say_answer(answer);
+    say(b", tape position ");
+    let position = *at;
+    say_number(position);
+    say(b"\n");
+    let closed = r.session;
+    closed
+}
+
+// The requests of one session, the last for a volume above the opened one.
+fn show_requests(
+    device: &mut [u8],
+    maps: &mut [u32],
+    owners: &mut [u8],
+    perm: &[u32],
+    tape: &[u8],
+    at: &mut usize,
+    session: Session,
+    text: &[u8],
+) {
+    show_writes(device, maps, owners, perm, tape, at, session, 1, text);
+    show_writes(device, maps, owners, perm, tape, at, session, 2, text);
+    show_find(device, maps, owners, session);
+}
+
+// What an open session is asked, and its close.
+fn show_work(
+    device: &mut [u8],
+    maps: &mut [u32],
+    owners: &mut [u8],
+    perm: &[u32],
+    tape: &[u8],
+    session: Session,
+    text: &[u8],
+) {
+    let mut at: usize = 0;
+    show_requests(device, maps, owners, perm, tape, &mut at, session, text);
+    show_close(device, maps, owners, tape, &mut at, session);
+}
+
+// One session: open, read, write, write again, ask above the opened volume, find, close.
+fn show_session(
+    device: &mut [u8],
+    maps: &mut [u32],
+    owners: &mut [u8],
+    perm: &[u32],
+    tape: &[u8],
+    block: &mut [u8],
+) {
+    let session = show_look(device, 1, maps, owners, perm, block);
+    fill(block);
+    show_work(device, maps, owners, perm, tape, session, block);
+}
+
+// The device opened again, with either key.
+fn show_again(device: &[u8], maps: &mut [u32], owners: &mut [u8], perm: &[u32], block: &mut [u8]) {
+    show_look(device, 1, maps, owners, perm, block);
+    show_look(device, 0, maps, owners, perm, block);
+}
+
+fn show(device: &mut [u8], tape: &[u8], block: &mut [u8]) {
+    let perm = [2u32, 0, 3, 1];
+    let mut maps = [0u32; 60];
+    let mut owners = [0u8; 4];
+    show_session(device, &mut maps, &mut owners, &perm, tape, block);
+    show_again(device, &mut maps, &mut owners, &perm, block);
+}
+
+fn run(device: &mut [u8], tape: &mut [u8], block: &mut [u8])
+    requires { ⌜ length (now device) ≡ 52224 ⌝ }
+{
+    make_image(device);
+    fill(tape);
+    show(device, tape, block);
 }
 
 fn main() {
-    show_counter_mode();
-    show_gcm();
+    let mut device = [0u8; 52224];
+    let mut tape = [0u8; 4096];
+    let mut block = [0u8; 1024];
+    run(&mut device, &mut tape, &mut block);
 }

@@ -1,7 +1,7 @@
 //! Counter mode (SP 800-38A, section 6.5). The IV is the first counter, and the counter adds one
 //! over all 128 bits.
 
-use super::aes::{RoundKeys, BLOCK};
+use super::aes::{RoundKeys, BLOCK, KEY};
 use crate::{CTR_TEXT_LIMIT, POSITION_LIMIT, SERVED, WRONG_KEY, WRONG_LENGTH};
 
 /// Encrypts or decrypts `text`.
@@ -38,4 +38,17 @@ pub fn keystream_at(key: &[u8], iv: &[u8], position: u64, text: &[u8], out: &mut
         start = end;
     }
     SERVED
+}
+
+/// Encrypts or decrypts `bytes` in place, with no limit on their length.
+pub fn apply(key: &[u8; KEY], iv: &[u8; BLOCK], bytes: &mut [u8]) {
+    let keys = RoundKeys::new(key);
+    let mut counter = u128::from_be_bytes(*iv);
+    for chunk in bytes.chunks_mut(BLOCK) {
+        let keystream = keys.encrypt(counter.to_be_bytes());
+        for (byte, keystream_byte) in chunk.iter_mut().zip(keystream) {
+            *byte ^= keystream_byte;
+        }
+        counter = counter.wrapping_add(1);
+    }
 }

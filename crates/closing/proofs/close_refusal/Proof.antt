@@ -1,0 +1,93 @@
+-- `closing::close_refusal` meets its contract: each return is the first refusal whose test holds. Assumes nothing.
+use mathlib.Core.Path.{_≡_, sym, ap, _∙_}
+use Prim.Native.Nat.{ℕ, _+_, _*_, _≤_}
+use native.Mathlib.Nat.{mul-le-mul-right}
+use native.Mathlib.Omega.{arith}
+use lib.ListN.{length}
+use borrow.Author.Needs.{needs}
+use Rattle.refusals.specs.Numbers.{answerNumber}
+use Rattle.model.specs.Session.{held, short}
+use Rattle.model.specs.Close.{closeNeed}
+use Rattle.model.proofs.Requests.{Stands, standing-none}
+use Rattle.reading.proofs.Order.{answer-positive}
+use Rattle.closing.proofs.Outcomes.{closeNeed-small, closeRefusal-first, closeRefusal-bad, closeRefusal-short, closeRefusal-served}
+use Rattle.closing.proofs.close_refusal.Statement.{statement}
+use Rattle.closing.proofs.close_refusal.Tie as tie
+
+-- Past the refusals that every request shares.
+stands : (c : tie.After-enum-told2)
+    → let a = c .before .before .before .before .before .args in Stands (a .device) (length (a .maps .now)) (length (a .owners .now)) (a .session)
+stands c =
+    let a = c .before .before .before .before .before .args in
+    standing-none (a .device) (length (a .maps .now)) (length (a .owners .now)) (a .session) 0
+    (sym (c .before .before .check-standing .ensures) ∙ ap answerNumber (c .enum-told2 .given .1)) .0
+
+-- The entries tested lie in the table, which is small.
+rows : (c : tie.After-struct-known)
+    → let a = c .before .before .before .before .before .before .before .args in let p = a .session .geometry .p in
+    ((a .session .k + 1) * p ≤ 15 * p) × (15 * p ≡ length (a .maps .now)) × (p ≤ 4096)
+rows c =
+    let told = c .before .before in
+    let s = told .before .before .before .before .before .args .session in
+    let ok = stands told in (
+      mul-le-mul-right {m = s .k + 1} {n = 15} (s .geometry .p) (omega (arith, ok .usable .top)),
+      sym (ok .tables .0),
+      ok .usable .allowed .slices-most,
+    )
+
+-- The tape bytes needed are few.
+few : (c : tie.After-map-blocks)
+    → let s = c .before .before .before .before .before .before .before .before .before .before .args .session in
+    (16 * c .map-blocks .result * (s .k + 1) ≤ 4080) × (s .k ≤ 14)
+few c =
+    let told = c .before .before .before .before .before in
+    let s = told .before .before .before .before .before .args .session in
+    let ok = stands told .usable in
+    (rw (c .map-blocks .ensures) (omega (arith, closeNeed-small (s .geometry) (ok .allowed) (s .k) (ok .top))), ok .top)
+
+returns : tie.Need-returns
+returns c =
+    let a = c .before .before .before .before .before .args in
+    let e = c .before .before .check-standing .ensures in
+    e
+    ∙ closeRefusal-first (a .device) (held (a .maps .now) (a .owners .now) (a .position) (a .session)) (a .tape)
+    (rw e at (answer-positive (c .enum-told .given .1)))
+
+returns-2 : tie.Need-returns-2
+returns-2 c =
+    let told = c .before .before .before .before in
+    let a = told .before .before .before .before .before .args in
+    closeRefusal-bad (a .device) (held (a .maps .now) (a .owners .now) (a .position) (a .session)) (a .tape) (stands told)
+    (sym (c .before .any-bad .ensures) ∙ c .if1 .taken)
+
+-- What the last test says of the tape.
+tape-short : (c : tie.After-is-short)
+    → let a = c .before .before .before .before .before .before .before .before .before .before .before .args in
+    short (a .tape) (a .position) (closeNeed (a .session)) ≡ c .is-short .result
+tape-short c =
+    let a = c .before .before .before .before .before .before .before .before .before .before .before .args in
+    sym (c .is-short .ensures ∙ ap (λ (m : ℕ). short (a .tape) (a .position) (16 * m * (a .session .k + 1))) (c .before .map-blocks .ensures))
+
+returns-3 : tie.Need-returns-3
+returns-3 c =
+    let good = c .before .before .before in
+    let told = good .before .before .before .before in
+    let a = told .before .before .before .before .before .args in
+    closeRefusal-short (a .device) (held (a .maps .now) (a .owners .now) (a .position) (a .session)) (a .tape) (stands told)
+    (sym (good .before .any-bad .ensures) ∙ good .if1 .left) (tape-short (c .before) ∙ c .if2 .taken)
+
+returns-4 : tie.Need-returns-4
+returns-4 c =
+    let good = c .before .before .before in
+    let told = good .before .before .before .before in
+    let a = told .before .before .before .before .before .args in
+    closeRefusal-served (a .device) (held (a .maps .now) (a .owners .now) (a .position) (a .session)) (a .tape) (stands told)
+    (sym (good .before .any-bad .ensures) ∙ good .if1 .left) (tape-short (c .before) ∙ c .if2 .left)
+
+pub close-refusal-spec : {M : Type 1} → statement M
+close-refusal-spec =
+    tie.close
+    (tie.spec (λ c κs. search needs) (λ c. search needs) returns (λ c. search needs)
+    (λ c. omega (arith, stands (c .before) .usable .top)) (λ c. omega (arith, rows c)) (λ c κs. omega (arith, rows c)) returns-2
+    (λ c κs. stands (c .before .before .before .before) .usable .allowed)
+    (λ c. omega (arith, few c)) (λ c. omega (arith, few c)) (λ c. omega (arith, few c)) (λ c κs. search needs) returns-3 returns-4)

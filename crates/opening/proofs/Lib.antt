@@ -1,0 +1,6 @@
+pub mod Refusals
+pub mod Headers
+pub mod Chains
+pub mod Loads
+pub mod Entries
+pub mod Outcomes

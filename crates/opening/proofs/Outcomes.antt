@@ -1,0 +1,108 @@
+-- Laws of what an opening leaves, by what its steps found. Assumes nothing.
+use Prim.Native.Nat.{ℕ, zero, suc, _+_, _≤_, _<_}
+use mathlib.Core.Path.{_≡_, refl, sym, ap, ap₂, subst, _∙_}
+use mathlib.Core.List.{List, []}
+use mathlib.Core.Bool.{true}
+use native.Mathlib.Omega.{arith}
+use lib.ListN.{length}
+use Rattle.gcm.specs.Gcm.{Opened, Text, WrongTag}
+use Rattle.model.specs.declared.Geometry.{Geometry}
+use Rattle.model.specs.declared.Session.{Session}
+use Rattle.model.specs.Geometry.{cellOf, headerOf}
+use Rattle.model.specs.Opening.{Cell, At, NoCell, openCell, orNext, firstCell, Chain, Keys, Broken, chain, Loaded, Tables, Spoilt, loadMaps, openRefusal}
+use Rattle.model.specs.Opening.{OpenResult, OpenTo, NotOpened, OpenOutcome, noSession, untouched, wiped, withTables, withKeys, withCell, openModel}
+use Rattle.model.specs.Answers.{OpenLeaves}
+use Rattle.opening.specs.declared.Found.{Found}
+use Rattle.opening.specs.declared.Found.the-variants as found
+use Rattle.opening.specs.Steps.{CellFound, ChainOpened}
+use Rattle.opening.proofs.Refusals.{unless-some, unless-none}
+
+-- ---- the cell
+
+cell-at : (o : Cell) (r : Found) (vmk : List ℕ) {k : ℕ} → CellFound o r vmk → r ≡ found.At k → o ≡ At k vmk
+cell-at (At j key) r vmk {k} (e, q) h = let same : j ≡ k = cc in ap₂ At same (sym q)
+cell-at NoCell r vmk e h = absurd (let z : _≡_ {A = ℕ} 0 1 = cc in omega arith)
+
+cell-none : (o : Cell) (r : Found) (vmk : List ℕ) → CellFound o r vmk → r ≡ found.Nothing → o ≡ NoCell
+cell-none (At j key) r vmk (e, q) h = absurd (let z : _≡_ {A = ℕ} 0 1 = cc in omega arith)
+cell-none NoCell r vmk e h = refl
+
+module _ (key : List ℕ) (cell : ℕ → List ℕ) where
+  firstCell-below : (left i k : ℕ) (vmk : List ℕ) → firstCell key cell left i ≡ At k vmk → k < i + left
+  unfolding firstCell
+  firstCell-below zero i k vmk e = absurd (let z : _≡_ {A = ℕ} 0 1 = cc in omega arith)
+  firstCell-below (suc left) i k vmk e = by-cell (openCell key i (cell i)) e (firstCell-below left (suc i) k vmk)
+    where
+      by-cell : (o : Opened) → orNext o i (firstCell key cell left (suc i)) ≡ At k vmk → (firstCell key cell left (suc i) ≡ At k vmk → k < suc i + left)
+          → k < i + suc left
+      by-cell (Text v) q ih = let same : i ≡ k = cc in omega arith
+      by-cell WrongTag q ih = omega (arith, ih q)
+
+  module _ (r : Found) (vmk : List ℕ) (f : CellFound (firstCell key cell 15 0) r vmk) where
+    pub found-at : {k : ℕ} → r ≡ found.At k → firstCell key cell 15 0 ≡ At k vmk
+    found-at h = cell-at (firstCell key cell 15 0) r vmk f h
+
+    pub found-below : {k : ℕ} → r ≡ found.At k → k ≤ 14
+    found-below {k} h = omega (arith, firstCell-below 15 0 k vmk (found-at h))
+
+    pub found-none : r ≡ found.Nothing → firstCell key cell 15 0 ≡ NoCell
+    found-none h = cell-none (firstCell key cell 15 0) r vmk f h
+
+-- ---- the outcome
+
+module _ (g : Geometry) (header : ℕ → List ℕ) where
+  withKeys-broken : (ch : Chain) (k n : ℕ) (keys : List ℕ) → ChainOpened ch k n keys → (n ≡ 0 → ⊥) → withKeys g header k ch ≡ wiped g n
+  unfolding withKeys
+  withKeys-broken (Keys ks) k n keys (e, q) h = absurd (h e)
+  withKeys-broken (Broken m) k n keys (e, q) h = ap (wiped g) (sym e)
+
+  withKeys-served : (ch : Chain) (k n : ℕ) (keys : List ℕ) → ChainOpened ch k n keys → n ≡ 0
+      → withKeys g header k ch ≡ withTables g k keys (loadMaps g header keys k)
+  unfolding withKeys
+  withKeys-served (Keys ks) k n keys (e, q) z = ap (λ (x : List ℕ). withTables g k x (loadMaps g header x k)) (sym q)
+  withKeys-served (Broken m) k n keys (e, q) z = absurd (q z)
+
+  pub withCell-none : {o : Cell} → o ≡ NoCell → withCell g header o ≡ wiped g 6
+  unfolding withCell
+  withCell-none e = rw e
+
+  module _ {o : Cell} (k : ℕ) (vmk : List ℕ) (at : o ≡ At k vmk) (n : ℕ) (keys : List ℕ) (opened : ChainOpened (chain g header k vmk []) k n keys) where
+    pub withCell-broken : (n ≡ 0 → ⊥) → withCell g header o ≡ wiped g n
+    unfolding withCell
+    withCell-broken h = rw at (withKeys-broken (chain g header k vmk []) k n keys opened h)
+
+    pub withCell-served : n ≡ 0 → withCell g header o ≡ withTables g k keys (loadMaps g header keys k)
+    unfolding withCell
+    withCell-served z = rw at (withKeys-served (chain g header k vmk []) k n keys opened z)
+
+pub withTables-spoilt : (g : Geometry) (k : ℕ) (keys : List ℕ) {l : Loaded} {n : ℕ} → l ≡ Spoilt n → withTables g k keys l ≡ wiped g n
+unfolding withTables
+withTables-spoilt g k keys e = rw e
+
+module _ (device : List ℕ) (g : Geometry) (key maps owners perm : List ℕ) where
+  pub openModel-refused : {n : ℕ} → n ≡ openRefusal g (length device) (length key) (length maps) (length owners) perm → (n ≡ 0 → ⊥)
+      → openModel device g key maps owners perm ≡ untouched maps owners n
+  unfolding openModel
+  openModel-refused e h = unless-some _ (untouched maps owners) _ (λ z. h (e ∙ z)) ∙ ap (untouched maps owners) (sym e)
+
+  pub openModel-served : openRefusal g (length device) (length key) (length maps) (length owners) perm ≡ 0
+      → openModel device g key maps owners perm ≡ withCell g (headerOf g device) (firstCell key (cellOf device) 15 0)
+  unfolding openModel
+  openModel-served e = unless-none (untouched maps owners) _ e
+
+-- ---- what is left
+
+-- A refused opening, with the tables as they are to be.
+pub leaves-refused : (m w : List ℕ) (n : ℕ) {o : OpenOutcome} {answer : OpenResult} {maps owners : List ℕ} {session : Session}
+    → o ≡ untouched m w n → answer ≡ NotOpened n → maps ≡ m → owners ≡ w → session ≡ noSession → OpenLeaves o answer maps owners session
+leaves-refused m w n e a em ew s = rw e (record { answered = a; mapped = em; owned = ew; handed = s })
+
+-- A served one.
+pub leaves-opened : (g : Geometry) (k : ℕ) (keys : List ℕ) {l : Loaded} {maps owners : List ℕ} → l ≡ Tables maps owners
+    → OpenLeaves (withTables g k keys l) (OpenTo k) maps owners (record { geometry = g; k = k; keys = keys; opened = true })
+unfolding withTables
+leaves-opened g k keys e = rw e (record { answered = refl; mapped = refl; owned = refl; handed = refl })
+
+pub leaves-by : {o p : OpenOutcome} → o ≡ p → (answer : OpenResult) (maps owners : List ℕ) (session : Session)
+    → OpenLeaves o answer maps owners session → OpenLeaves p answer maps owners session
+leaves-by e answer maps owners session h = subst (λ (x : OpenOutcome). OpenLeaves x answer maps owners session) e h

@@ -1,0 +1,93 @@
+-- Laws of refused openings: a refusal's number is not 0, and the rows 1 to 5 as their tests find them. Assumes nothing.
+use Prim.Native.Nat.{ℕ, zero, suc, _*_}
+use mathlib.Core.Path.{_≡_, refl, sym, ap, _∙_}
+use mathlib.Core.List.{List}
+use mathlib.Core.Bool.{Bool, true, false}
+use native.Mathlib.Omega.{arith}
+use borrow.Author.Tests.{eq-eqb, ne-eqb}
+use lib.ListN.{length}
+use Rattle.refusals.specs.declared.Refusal.{Refusal}
+use Rattle.refusals.specs.declared.Answer.{Answer}
+use Rattle.refusals.specs.declared.Answer.the-variants.{Served, Refused}
+use Rattle.refusals.specs.Numbers.{refusalNumber, answerNumber, refuse}
+use Rattle.refusals.proofs.Positive.{refusal-positive}
+use Rattle.model.specs.declared.Geometry.{Geometry}
+use Rattle.model.specs.Geometry.{Allowed, badGeometry, deviceLength}
+use Rattle.model.specs.Session.{unless}
+use Rattle.model.specs.Opening.{missing, openRefusal}
+use Rattle.model.proofs.Tests.{badGeometry-allowed}
+
+-- ---- numbers
+
+refusal-nonzero : (r : Refusal) → refusalNumber r ≡ 0 → ⊥
+refusal-nonzero r e = omega (arith, refusal-positive r)
+
+pub answer-refused : {a : Answer} {r : Refusal} → a ≡ Refused r → answerNumber a ≡ 0 → ⊥
+answer-refused {a} {r} e z = refusal-nonzero r (sym (ap answerNumber e) ∙ z)
+
+pub answer-served : {a : Answer} → a ≡ Served → answerNumber a ≡ 0
+answer-served e = ap answerNumber e
+
+pub unless-some : {A : Type 0} (n : ℕ) (f : ℕ → A) (x : A) → (n ≡ 0 → ⊥) → unless n f x ≡ f n
+unless-some zero f x h = absurd (h refl)
+unless-some (suc n) f x h = refl
+
+pub unless-none : {A : Type 0} {n : ℕ} (f : ℕ → A) (x : A) → n ≡ 0 → unless n f x ≡ x
+unless-none f x e = rw e
+
+-- ---- a bad geometry
+
+refuse-again : (b : Bool) (n : ℕ) {r s : ℕ} → ((r ≡ 0 → ⊥) → r ≡ s) → (refuse b n r ≡ 0 → ⊥) → refuse b n r ≡ refuse b n s
+unfolding refuse
+refuse-again true n h ne = refl
+refuse-again false n h ne = h ne
+
+-- Refused for its geometry, whatever follows.
+badGeometry-some : (n : ℕ) (g : Geometry) (rest : ℕ) → (badGeometry n g 0 ≡ 0 → ⊥) → badGeometry n g 0 ≡ badGeometry n g rest
+unfolding badGeometry
+badGeometry-some n g rest =
+    refuse-again _ n (refuse-again _ n (refuse-again _ n (refuse-again _ n (refuse-again _ n (λ h. absurd (h refl))))))
+
+-- ---- 2 to 5
+
+module _ (g : Geometry) (device key maps owners : ℕ) (perm : List ℕ) where
+  pub wrong-geometry : (badGeometry 1 g 0 ≡ 0 → ⊥) → badGeometry 1 g 0 ≡ openRefusal g device key maps owners perm
+  unfolding openRefusal
+  wrong-geometry = badGeometry-some 1 g _
+
+  module _ (ok : Allowed g) where
+    pub wrong-device : (device ≡ deviceLength g → ⊥) → 2 ≡ openRefusal g device key maps owners perm
+    unfolding openRefusal refuse
+    wrong-device h = sym (badGeometry-allowed 1 g _ ok ∙ rw (ne-eqb device _ h))
+
+    module _ (hd : device ≡ deviceLength g) where
+      pub wrong-key : (key ≡ 32 → ⊥) → 3 ≡ openRefusal g device key maps owners perm
+      unfolding openRefusal refuse
+      wrong-key h = sym (badGeometry-allowed 1 g _ ok ∙ rw (eq-eqb device, ne-eqb key))
+
+      module _ (hk : key ≡ 32) where
+        pub wrong-maps : (maps ≡ 15 * g .p → ⊥) → 4 ≡ openRefusal g device key maps owners perm
+        unfolding openRefusal refuse
+        wrong-maps h = sym (badGeometry-allowed 1 g _ ok ∙ rw (eq-eqb device, eq-eqb key, ne-eqb maps))
+
+        module _ (hm : maps ≡ 15 * g .p) where
+          pub wrong-owners : (owners ≡ g .p → ⊥) → 4 ≡ openRefusal g device key maps owners perm
+          unfolding openRefusal refuse
+          wrong-owners h = sym (badGeometry-allowed 1 g _ ok ∙ rw (eq-eqb device, eq-eqb key, eq-eqb maps, ne-eqb owners))
+
+          module _ (ho : owners ≡ g .p) where
+            pub wrong-places : (length perm ≡ g .p → ⊥) → 5 ≡ openRefusal g device key maps owners perm
+            unfolding openRefusal refuse
+            wrong-places h =
+                sym (badGeometry-allowed 1 g _ ok ∙ rw (eq-eqb device, eq-eqb key, eq-eqb maps, eq-eqb owners, ne-eqb (length perm)))
+
+            module _ (hp : length perm ≡ g .p) where
+              pub slice-missing : missing (g .p) perm ≡ true → 5 ≡ openRefusal g device key maps owners perm
+              unfolding openRefusal refuse
+              slice-missing h =
+                  sym (badGeometry-allowed 1 g _ ok ∙ rw (eq-eqb device, eq-eqb key, eq-eqb maps, eq-eqb owners, eq-eqb (length perm), h))
+
+              pub none-missing : missing (g .p) perm ≡ false → 0 ≡ openRefusal g device key maps owners perm
+              unfolding openRefusal refuse
+              none-missing h =
+                  sym (badGeometry-allowed 1 g _ ok ∙ rw (eq-eqb device, eq-eqb key, eq-eqb maps, eq-eqb owners, eq-eqb (length perm), h))

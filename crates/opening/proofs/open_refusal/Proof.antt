@@ -1,0 +1,109 @@
+-- `opening::open_refusal` meets its contract: each return is the row that its tests pick. Assumes nothing.
+use mathlib.Core.Path.{sym, _∙_}
+use native.Mathlib.Omega.{arith}
+use borrow.Author.Needs.{needs}
+use Rattle.model.specs.Geometry.{Allowed}
+use Rattle.model.proofs.Tests.{badGeometry-none}
+use Rattle.opening.proofs.Refusals.{answer-refused, answer-served}
+use Rattle.opening.proofs.Refusals.{wrong-geometry, wrong-device, wrong-key, wrong-maps, wrong-owners, wrong-places, slice-missing, none-missing}
+use Rattle.opening.proofs.open_refusal.Statement.{statement}
+use Rattle.opening.proofs.open_refusal.Tie as tie
+
+-- The geometry passed.
+allowed : (c : tie.After-enum-told2) → Allowed (c .before .before .before .before .args .g)
+allowed c = badGeometry-none 0 _ 0 (sym (c .before .before .check-geometry .ensures) ∙ answer-served (c .enum-told2 .given .1)) .0
+
+returns : tie.Need-returns
+returns c =
+    let e = c .before .before .check-geometry .ensures in
+    e ∙ wrong-geometry _ _ _ _ _ _ (λ z. answer-refused (c .enum-told .given .1) (e ∙ z))
+
+returns-2 : tie.Need-returns-2
+returns-2 c = wrong-device _ _ _ _ _ _ (allowed (c .before .before)) (λ e. c .if1 .taken (e ∙ sym (c .before .device-length .ensures)))
+
+returns-3 : tie.Need-returns-3
+returns-3 c = wrong-key _ _ _ _ _ _ (allowed (c .before .before .before)) (c .before .if1 .left ∙ c .before .before .device-length .ensures) (c .if2 .taken)
+
+mul-if3 : tie.Need-mul-if3
+mul-if3 c = omega (arith, allowed (c .before .before .before .before) .slices-most)
+
+returns-4 : tie.Need-returns-4
+returns-4 c =
+    let key = c .before .before in
+    let device = key .before in
+    let measured = device .before in
+    let told = measured .before in
+    wrong-maps _ _ _ _ _ _ (allowed told) (device .if1 .left ∙ measured .device-length .ensures) (key .if2 .left) (c .if3 .taken)
+
+returns-5 : tie.Need-returns-5
+returns-5 c =
+    let maps = c .before .before in
+    let key = maps .before .before in
+    let device = key .before in
+    let measured = device .before in
+    let told = measured .before in
+    wrong-owners _ _ _ _ _ _ (allowed told) (device .if1 .left ∙ measured .device-length .ensures) (key .if2 .left)
+    (maps .if3 .left) (c .if4 .taken)
+
+returns-6 : tie.Need-returns-6
+returns-6 c =
+    let owners = c .before .before in
+    let maps = owners .before .before in
+    let key = maps .before .before in
+    let device = key .before in
+    let measured = device .before in
+    let told = measured .before in
+    wrong-places _ _ _ _ _ _ (allowed told) (device .if1 .left ∙ measured .device-length .ensures) (key .if2 .left)
+    (maps .if3 .left) (owners .if4 .left) (c .if5 .taken)
+
+is-missing-requires : tie.Need-is-missing-requires
+is-missing-requires c κs =
+    let told = c .before .before .before .before .before .before .before .before .before in
+    allowed told .slices-most
+
+returns-7 : tie.Need-returns-7
+returns-7 c =
+    let searched = c .before in
+    let places = searched .before in
+    let owners = places .before .before in
+    let maps = owners .before .before in
+    let key = maps .before .before in
+    let device = key .before in
+    let measured = device .before in
+    let told = measured .before in
+    slice-missing _ _ _ _ _ _ (allowed told) (device .if1 .left ∙ measured .device-length .ensures) (key .if2 .left)
+    (maps .if3 .left) (owners .if4 .left) (places .if5 .left)
+    (sym (searched .is-missing .ensures) ∙ c .if6 .taken)
+
+returns-8 : tie.Need-returns-8
+returns-8 c =
+    let searched = c .before in
+    let places = searched .before in
+    let owners = places .before .before in
+    let maps = owners .before .before in
+    let key = maps .before .before in
+    let device = key .before in
+    let measured = device .before in
+    let told = measured .before in
+    none-missing _ _ _ _ _ _ (allowed told) (device .if1 .left ∙ measured .device-length .ensures) (key .if2 .left)
+    (maps .if3 .left) (owners .if4 .left) (places .if5 .left)
+    (sym (searched .is-missing .ensures) ∙ c .if6 .left)
+
+pub open-refusal-spec : {M : Type 1} → statement M
+open-refusal-spec =
+    tie.close
+    (tie.spec
+    (λ c κs. search needs)
+    (λ c. search needs)
+    returns
+    (λ c. search needs)
+    (λ c κs. allowed c)
+    returns-2
+    returns-3
+    mul-if3
+    returns-4
+    returns-5
+    returns-6
+    is-missing-requires
+    returns-7
+    returns-8)

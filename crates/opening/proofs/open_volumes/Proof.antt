@@ -1,0 +1,118 @@
+-- `opening::open_volumes` meets its contract. Assumes nothing.
+use mathlib.Core.Path.{_≡_, refl, sym, ap, _∙_}
+use Prim.Native.Nat.{_≤_}
+use native.Mathlib.Omega.{arith}
+use borrow.Author.Needs.{needs}
+use Rattle.refusals.specs.Numbers.{answerNumber}
+use Rattle.model.specs.Geometry.{cellOf, headerOf}
+use Rattle.model.specs.Opening.{At, firstCell, NotOpened, noMaps, noOwners}
+use Rattle.model.specs.Answers.{openResult}
+use Rattle.places.proofs.Bounds.{cell-fits}
+use Rattle.opening.proofs.Refusals.{answer-refused, answer-served}
+use Rattle.opening.proofs.Outcomes.{found-at, found-below, found-none, withCell-none, withCell-broken, withCell-served, leaves-refused, leaves-by}
+use Rattle.opening.proofs.open_volumes.Statement.{statement}
+use Rattle.opening.proofs.open_volumes.Tie as tie
+
+-- The cell that was found.
+at : (c : tie.After-found)
+    → let a = c .before .before .before .before .before .before .before .before .before .args in
+    firstCell (a .key .now) (cellOf (a .device .now)) 15 0 ≡ At (c .found .given .0 .0) (c .before .before .before .first-cell .last .1 .1 .0)
+at c =
+    let f = c .before .before .before .first-cell in
+    let a = c .before .before .before .before .before .before .before .before .before .args in
+    found-at (a .key .now) (cellOf (a .device .now)) (f .result) (f .last .1 .1 .0) (f .ensures) (c .found .given .1)
+
+volume-most : (c : tie.After-found) → c .found .given .0 .0 ≤ 14
+volume-most c =
+    let f = c .before .before .before .first-cell in
+    let a = c .before .before .before .before .before .before .before .before .before .args in
+    found-below (a .key .now) (cellOf (a .device .now)) (f .result) (f .last .1 .1 .0) (f .ensures) (c .found .given .1)
+
+first-cell-requires : tie.Need-first-cell-requires
+first-cell-requires c κs =
+    let s = c .before .before .before .before .before in
+    (omega (arith, cell-fits (s .args .g) (s .pre .0) 14 (omega arith), s .pre .1), s .pre .2, refl)
+
+open-chain-requires : tie.Need-open-chain-requires
+open-chain-requires c κs =
+    let empty = c .before .before in
+    let finding = empty .before .before in
+    let cell = finding .before .before .before in
+    let s = cell .before .before .before .before .before .before in
+    (s .pre .0, s .pre .1, volume-most finding, cell .first-cell .kept .1 .1 .0, empty .no-keys .ensures)
+
+returns : tie.Need-returns
+returns c =
+    let refusing = c .before .before in
+    let chained = refusing .before .before .before .before in
+    let finding = chained .before .before .before .before .before in
+    let cell = finding .before .before .before in
+    let s = cell .before .before .before .before .before .before in
+    let a = s .args in
+    let keys = chained .open-chain in
+    let number = answerNumber (keys .result) in
+    let bad = refusing .bad .given .1 in
+    leaves-refused (noMaps (a .g)) (noOwners (a .g)) number
+    (withCell-broken (a .g) (headerOf (a .g) (a .device .now)) (finding .found .given .0 .0) (cell .first-cell .last .1 .1 .0) (at finding) number
+    (keys .last .1 .1 .1 .1 .0) (keys .ensures) (answer-refused bad))
+    (ap openResult (c .refused2 .ensures .0) ∙ sym (ap (λ x. NotOpened (answerNumber x)) bad))
+    (s .pre .3)
+    (s .pre .4)
+    (c .refused2 .ensures .1)
+
+open-maps-requires : tie.Need-open-maps-requires
+open-maps-requires c κs =
+    let finding = c .before .before .before .before .before .before .before .before .before .before .before in
+    let s = finding .before .before .before .before .before .before .before .before .before in
+    (s .pre .0, s .pre .1, volume-most finding, s .pre .3, s .pre .4)
+
+returns-2 : tie.Need-returns-2
+returns-2 c =
+    let told = c .before in
+    let cell = told .before .before .before in
+    let s = cell .before .before .before .before .before .before in
+    let a = s .args in
+    let f = cell .first-cell in
+    let none = found-none (a .key .now) (cellOf (a .device .now)) (f .result) (f .last .1 .1 .0) (f .ensures) (told .enum-told .given .1) in
+    leaves-refused (noMaps (a .g)) (noOwners (a .g)) 6 (withCell-none (a .g) (headerOf (a .g) (a .device .now)) none)
+    (ap openResult (c .refused .ensures .0)) (s .pre .3) (s .pre .4) (c .refused .ensures .1)
+
+returns-3 : tie.Need-returns-3
+returns-3 c =
+    let loading = c .before .before .before .before in
+    let told = loading .before .before .before in
+    let chained = told .before .before .before .before in
+    let finding = chained .before .before .before .before .before in
+    let cell = finding .before .before .before in
+    let start = cell .before .before .before .before .before .before in
+    let a = start .args in
+    let keys = chained .open-chain in
+    let number = answerNumber (keys .result) in
+    leaves-by
+    (sym
+    (withCell-served (a .g) (headerOf (a .g) (a .device .now)) (finding .found .given .0 .0) (cell .first-cell .last .1 .1 .0) (at finding) number
+    (keys .last .1 .1 .1 .1 .0) (keys .ensures) (answer-served (told .enum-told2 .given .1))))
+    _ _ _ _ (loading .open-maps .ensures)
+
+pub open-volumes-spec : {M : Type 1} → statement M
+open-volumes-spec =
+    tie.close
+    (tie.spec
+    (λ c. search needs)
+    first-cell-requires
+    (λ c. search needs)
+    (λ c κs. search needs)
+    (λ c. search needs)
+    (λ c κs. search needs)
+    (λ c. search needs)
+    (λ c. search needs)
+    open-chain-requires
+    (λ c. search needs)
+    (λ c κs. search needs)
+    returns
+    (λ c. search needs)
+    open-maps-requires
+    returns-2
+    (λ c. search needs)
+    (λ c. search needs)
+    returns-3)

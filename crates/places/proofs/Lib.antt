@@ -1,0 +1,4 @@
+pub mod Parts
+pub mod Bounds
+pub mod Numbers
+pub mod Refusals

@@ -1,0 +1,83 @@
+-- What a read and a find come to, by the tests that their code makes. Assumes nothing.
+use Prim.Native.Nat.{ℕ, _+_, _-_, _≤_, _<_}
+use mathlib.Core.Path.{_≡_}
+use mathlib.Core.List.{List, []}
+use native.Mathlib.Omega.{arith}
+use lib.ListN.{length, replicate}
+use borrow.Author.Tests.{lt-ltb, le-ltb}
+use Rattle.ctr.specs.CounterMode.{ctr}
+use Rattle.model.specs.declared.Geometry.{Geometry}
+use Rattle.model.specs.declared.Session.{Session}
+use Rattle.model.specs.Parts.{part}
+use Rattle.model.specs.Geometry.{ivStart, blockStart}
+use Rattle.model.specs.Session.{slot, sliceOf, offsetOf, entryOf}
+use Rattle.model.specs.Read.{deciphered, blockOf, readRefusal, Filled, Refused, readModel, findModel}
+use Rattle.model.proofs.Requests.{Stands, standing-none, Asked, asked-none}
+use Rattle.places.proofs.Bounds.{slot-lt, sliceOf-lt}
+use Rattle.reading.proofs.Order.{unless-refused}
+
+-- A part that is lent from a place to that place and n more.
+pub part-lent {ℓ} : {A : Type ℓ} (s : List A) {at : ℕ} (from n : ℕ) → from ≡ at → part from (from + n - from) s ≡ part at n s
+part-lent s from n e = let q : from + n - from ≡ n = omega arith in rw (q, e)
+
+-- ---- requests that are not refused
+
+-- The entry of an asked block stands in the map table.
+pub asked-slot : {device owners : ℕ} {maps : List ℕ} {s : Session} {i a len : ℕ} → Stands device (length maps) owners s → Asked maps s i a len
+    → slot (s .geometry) i (sliceOf (s .geometry) a) < length maps
+asked-slot {s = s} {i = i} {a = a} h q =
+    let ok = h .usable .allowed in
+    rw (h .tables .0)
+    (slot-lt (s .geometry) ok i _ (omega (arith, q .volume, h .usable .top)) (sliceOf-lt (s .geometry) ok a (q .address)))
+
+-- A read or a find that nothing refuses.
+pub record Ready (device : ℕ) (maps owners : List ℕ) (s : Session) (i a room : ℕ) : Type 0 where
+  pub stands : Stands device (length maps) (length owners) s
+  pub asked : Asked maps s i a room
+
+pub readRefusal-none : (device : ℕ) (maps owners : List ℕ) (s : Session) (i a room : ℕ) → readRefusal device maps owners s i a room ≡ 0
+    → Ready device maps owners s i a room
+unfolding readRefusal
+readRefusal-none device maps owners s i a room e =
+    let p = standing-none _ _ _ _ _ e in record { stands = p .0; asked = asked-none _ _ _ _ _ (p .1) }
+
+-- ---- read
+
+module _ (g : Geometry) (key : List ℕ) (ψ j : ℕ) (device : List ℕ) where
+  pub deciphered-mapped : ψ < g .p
+      → deciphered g key ψ j device ≡ ctr key (part (ivStart g ψ j) 16 device) (part (blockStart g ψ j) (g .b) device)
+  unfolding deciphered
+  deciphered-mapped l = rw (lt-ltb _ _ l)
+
+  pub deciphered-unmapped : g .p ≤ ψ → deciphered g key ψ j device ≡ replicate (g .b) 0
+  unfolding deciphered
+  deciphered-unmapped l = rw (le-ltb _ _ l)
+
+module _ (device maps owners : List ℕ) (s : Session) (i a : ℕ) where
+  pub read-refused : (room n : ℕ) → n ≡ readRefusal (length device) maps owners s i a room → 0 < n
+      → readModel device maps owners s i a room ≡ Refused n
+  unfolding readModel
+  read-refused room n e l = rw (← e) (unless-refused n _ _ l)
+
+  pub read-served : (room : ℕ) → readRefusal (length device) maps owners s i a room ≡ 0
+      → readModel device maps owners s i a room ≡ Filled (blockOf device maps s i a)
+  unfolding readModel
+  read-served room e = rw e
+
+  -- ---- find
+
+  pub find-refused : (n : ℕ) → n ≡ readRefusal (length device) maps owners s i a (s .geometry .b) → 0 < n
+      → findModel device maps owners s i a ≡ []
+  unfolding findModel
+  find-refused n e l = rw (← e) (unless-refused n _ _ l)
+
+  module _ (e : readRefusal (length device) maps owners s i a (s .geometry .b) ≡ 0) where
+    pub find-mapped : entryOf maps (s .geometry) i a < s .geometry .p
+        → findModel device maps owners s i a
+        ≡ part (blockStart (s .geometry) (entryOf maps (s .geometry) i a) (offsetOf (s .geometry) a)) (s .geometry .b) device
+    unfolding findModel
+    find-mapped l = rw (e, lt-ltb _ _ l)
+
+    pub find-unmapped : s .geometry .p ≤ entryOf maps (s .geometry) i a → findModel device maps owners s i a ≡ []
+    unfolding findModel
+    find-unmapped l = rw (e, le-ltb _ _ l)

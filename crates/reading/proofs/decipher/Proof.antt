@@ -1,0 +1,53 @@
+-- `reading::decipher` meets its contract. Assumes nothing.
+use Prim.Native.Nat.{ℕ, _+_, _≤_}
+use mathlib.Core.Path.{sym, ap, ap₂, _∙_}
+use native.Mathlib.Omega.{arith}
+use borrow.Author.Needs.{needs}
+use lib.ListN.{length, replicate}
+use Rattle.ctr.specs.CounterMode.{ctr}
+use Rattle.places.proofs.Bounds.{iv-fits, block-fits}
+use Rattle.reading.proofs.Outcomes.{part-lent, deciphered-mapped, deciphered-unmapped}
+use Rattle.reading.proofs.decipher.Statement.{statement}
+use Rattle.reading.proofs.decipher.Tie as tie
+
+-- The IV and the block lie on the device.
+iv-inside : (c : tie.After-iv-start) → let a = c .before .before .before .before .before .before .args in
+    c .iv-start .result + 16 ≤ length (a .device .now)
+iv-inside c =
+    let start = c .before .before .before .before .before .before in
+    let a = start .args in
+    rw (c .iv-start .ensures, start .pre .1) (iv-fits (a .g) (start .pre .0) (a .entry) (a .j) (c .before .if1 .taken) (start .pre .3))
+
+block-inside : (c : tie.After-block-start) → let a = c .before .before .before .before .before .before .before .args in
+    c .block-start .result + a .g .b ≤ length (a .device .now)
+block-inside c =
+    let mapped = c .before .before in
+    let start = mapped .before .before .before .before .before in
+    let a = start .args in
+    rw (c .block-start .ensures, start .pre .1) (block-fits (a .g) (start .pre .0) (a .entry) (a .j) (mapped .if1 .taken) (start .pre .3))
+
+returns : tie.Need-returns
+returns c =
+    let at = c .before .before .before .before .before .before .before in
+    let iv = at .before in
+    let a = iv .before .before .before .before .before .before .args in
+    c .before .before .ctr-into .ensures
+    ∙ ap₂ (ctr (a .key .now)) (part-lent (a .device .now) (iv .iv-start .result) 16 (iv .iv-start .ensures))
+    (part-lent (a .device .now) (at .block-start .result) (a .g .b) (at .block-start .ensures))
+    ∙ sym (deciphered-mapped (a .g) (a .key .now) (a .entry) (a .j) (a .device .now) (iv .before .if1 .taken))
+
+returns-2 : tie.Need-returns-2
+returns-2 c =
+    let unmapped = c .before .before .before .before in
+    let start = unmapped .before .before .before .before .before in
+    let a = start .args in
+    c .before .before .clear .ensures
+    ∙ ap (λ (n : ℕ). replicate n 0) (start .pre .4)
+    ∙ sym (deciphered-unmapped (a .g) (a .key .now) (a .entry) (a .j) (a .device .now) (unmapped .if1 .left))
+
+pub decipher-spec : {M : Type 1} → statement M
+decipher-spec =
+    tie.close
+    (tie.spec (λ c κs. search needs) (λ c. omega (arith, iv-inside c)) (λ c κs. search needs) (λ c. omega (arith, block-inside (c .before)))
+    (λ c. search needs) (λ c. search needs) (λ c. iv-inside (c .before .before)) (λ c. search needs) (λ c. search needs)
+    (λ c. block-inside (c .before .before)) (λ c κs. search needs) (λ c κs. search needs) (λ c. search needs) returns (λ c. search needs) returns-2)

@@ -1,0 +1,144 @@
+// The lent tables: the map table, the owner table and the permutation.
+ghost use mathlib.Core.Path.{_≡_};
+ghost use Prim.Native.Nat.{_+_, _-_, _*_, _≤_, _<_};
+ghost use lib.ListN.{length, replicate};
+ghost use Rattle.refusals.specs.Numbers.{answerNumber};
+ghost use Rattle.model.specs.Geometry.{numberAt};
+ghost use Rattle.model.specs.Session.{slot, entry, unmapped};
+ghost use Rattle.model.specs.Opening.{missing, settle, load, Tables};
+ghost use Rattle.model.specs.Write.{firstFree};
+ghost use Rattle.model.specs.Close.{anyBad};
+ghost use Rattle.tables.specs.Flagged.{flagged, anyZero};
+ghost use Rattle.tables.specs.Settled.{Settled};
+use model::Geometry;
+use model::Search;
+use refusals::Answer;
+use refusals::Refusal;
+
+// The mark of an unmapped logical slice (document 01: FFFFFFFF).
+pub const UNMAPPED: u32 = 4294967295;
+
+// ---- the map table
+
+// The entry of a logical slice of a volume.
+pub fn entry_at(maps: &[u32], g: Geometry, volume: usize, slice: usize) -> usize
+    requires { ⌜ slot g volume slice < length (now maps) ⌝ }
+    ensures { λ r. ⌜ r ≡ entry (now (maps .entry)) g volume slice ⌝ }
+{
+    let at = volume * g.p + slice;
+    maps[at] as usize
+}
+
+// Every entry the mark.
+pub fn unmap(maps: &mut [u32])
+    ensures { λ r. ⌜ now (maps .exit) ≡ replicate (length (now (maps .entry))) unmapped ⌝ }
+{
+    let mut i = 0;
+    while i < maps.len() {
+        maps[i] = 4294967295;
+        i += 1;
+    }
+}
+
+// Whether one of the first n entries is neither the mark nor below p.
+pub fn any_bad(maps: &[u32], p: usize, n: usize) -> bool
+    requires { ⌜ n ≤ length (now maps) ⌝ }
+    ensures { λ r. ⌜ r ≡ anyBad p (now (maps .entry)) n ⌝ }
+{
+    let mut i = 0;
+    while i < n {
+        let entry = maps[i] as usize;
+        if entry != 4294967295 {
+            if p <= entry {
+                return true;
+            }
+        }
+        i += 1;
+    }
+    false
+}
+
+// ---- the permutation
+
+// One flag for each slice that the permutation names, in scratch memory of its own, so that the lent tables stay.
+fn flag_named(perm: &[u32], named: &mut [u8])
+    ensures { λ r. ⌜ now (named .exit) ≡ flagged (now (perm .entry)) (now (named .entry)) ⌝ }
+{
+    let mut i = 0;
+    while i < perm.len() {
+        let slice = perm[i] as usize;
+        if slice < named.len() {
+            named[slice] = 1;
+        }
+        i += 1;
+    }
+}
+
+// Whether one of the flags of the slices below p is 0.
+fn any_zero(flags: &[u8], p: usize) -> bool
+    requires { ⌜ p ≤ length (now flags) ⌝ }
+    ensures { λ r. ⌜ r ≡ anyZero (now (flags .entry)) p ⌝ }
+{
+    let mut n = 0;
+    while n < p {
+        if flags[n] == 0 {
+            return true;
+        }
+        n += 1;
+    }
+    false
+}
+
+// Whether a slice below p is not named by the permutation; linear in its length.
+pub fn is_missing(perm: &[u32], p: usize) -> bool
+    requires { ⌜ p ≤ 4096 ⌝ }
+    ensures { λ r. ⌜ r ≡ missing p (now (perm .entry)) ⌝ }
+{
+    let mut named = [0u8; 4096];
+    flag_named(perm, &mut named);
+    any_zero(&named, p)
+}
+
+// The first place of the permutation, from a start on, whose slice is free.
+pub fn first_free(owners: &[u8], perm: &[u32], start: usize) -> Search
+    ensures { λ r. ⌜ r ≡ firstFree (now (owners .entry)) (length (now (owners .entry))) start (now (perm .entry)) ⌝ }
+{
+    let mut place = start;
+    while place < perm.len() {
+        let slice = perm[place] as usize;
+        if owners.len() <= slice {
+            return Search::Bad(place);
+        }
+        if owners[slice] == 0 {
+            return Search::Free {
+                slice: slice,
+                place: place,
+            };
+        }
+        place += 1;
+    }
+    Search::Full
+}
+
+// ---- loading
+
+// Entry x at index i of the map table into the tables so far, or refusal 9 or 10.
+pub fn settle_one(maps: &mut [u32], owners: &mut [u8], x: usize, i: usize) -> Answer
+    requires { ⌜ (length (now maps) ≡ 15 * length (now owners)) × (length (now owners) ≤ 4096) × (i < length (now maps)) ⌝ }
+    ensures { λ r. ⌜ Settled (settle (length (now (owners .entry))) x i (now (maps .entry)) (now (owners .entry)) Tables) (answerNumber r)
+        (now (maps .exit)) (now (owners .exit)) ⌝ }
+{
+    if x == 4294967295 {
+        return Answer::Served;
+    }
+    let p = owners.len();
+    if p <= x {
+        return Answer::Refused(Refusal::BadEntry);
+    }
+    if owners[x] != 0 {
+        return Answer::Refused(Refusal::SliceTwice);
+    }
+    maps[i] = x as u32;
+    owners[x] = (i / p + 1) as u8;
+    Answer::Served
+}

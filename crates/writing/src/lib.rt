@@ -1,0 +1,244 @@
+// Write: rewriting a mapped block and claiming a slice for an unmapped one.
+//
+// `write` is the public call: any arguments, the tape position lent as one record. It is thin: its number is lent to
+// `write_by`, which does the work. All tests come before the first byte is written and before the position moves.
+ghost use mathlib.Core.Path.{_≡_};
+ghost use Prim.Native.Nat.{_+_, _*_, _≤_, _<_};
+ghost use lib.ListN.{length};
+ghost use Rattle.refusals.specs.Numbers.{answerNumber};
+ghost use Rattle.ctr.specs.CounterMode.{ctr};
+ghost use Rattle.model.specs.Parts.{overlay};
+ghost use Rattle.model.specs.Geometry.{Allowed, deviceLength, sliceStart, ivStart, blockStart};
+ghost use Rattle.model.specs.Session.{held};
+ghost use Rattle.model.specs.Write.{WriteResult, claimedBytes, writeRefusal, writeModel};
+ghost use Rattle.model.specs.Answers.{writeResult, Leaves};
+use model::Change;
+use model::Geometry;
+use model::Search;
+use model::Session;
+use model::TapePosition;
+use model::WriteAnswer;
+use model::Written;
+use refusals::Answer;
+use refusals::Refusal;
+
+// All refusals of a write before its search and its tape.
+fn write_refusal(
+    device: usize,
+    maps: &[u32],
+    owners: &[u8],
+    session: Session,
+    volume: usize,
+    address: usize,
+    len: usize,
+    perm: usize,
+) -> Answer
+    ensures { λ r. ⌜ answerNumber r ≡ writeRefusal device (now (maps .entry)) (now (owners .entry)) session volume address len perm ⌝ }
+{
+    let bad = reading::check_standing(device, maps.len(), owners.len(), session);
+    if let Answer::Refused(_) = bad {
+        return bad;
+    }
+    let g = session.geometry;
+    if perm != g.p {
+        return Answer::Refused(Refusal::BadPermutation);
+    }
+    reading::check_asked(maps, session, volume, address, len)
+}
+
+// Block j of a slice stored anew under a fresh IV, over the old block where that block begins on the device.
+fn rewrite(
+    device: &mut [u8],
+    g: Geometry,
+    key: &[u8],
+    iv: &[u8],
+    slice: usize,
+    j: usize,
+    text: &[u8],
+)
+    requires { ⌜ Allowed g × (length (now device) ≡ deviceLength g) × (length (now key) ≡ 32) × (slice < g .p) × (j < g .s) × (length (now iv) ≡ 16)
+        × (length (now text) ≡ g .b) ⌝ }
+    ensures { λ r. ⌜ now (device .exit) ≡ overlay (overlay (now (device .entry)) (ivStart g slice j) (now (iv .entry))) (blockStart g slice j)
+        (ctr (now (key .entry)) (now (iv .entry)) (now (text .entry))) ⌝ }
+{
+    let from = places::iv_start(g, slice, j);
+    places::store(device, from, iv);
+    let at = places::block_start(g, slice, j);
+    places::store_ctr(device, at, key, iv, text);
+}
+
+// A whole slice: its IV block, then each data block, zeros but for block j.
+fn claim(
+    device: &mut [u8],
+    g: Geometry,
+    key: &[u8],
+    ivs: &[u8],
+    slice: usize,
+    j: usize,
+    text: &[u8],
+)
+    requires { ⌜ Allowed g × (length (now device) ≡ deviceLength g) × (length (now key) ≡ 32) × (slice < g .p) × (length (now ivs) ≡ g .b) ×
+        (length (now text) ≡ g .b) ⌝ }
+    ensures { λ r. ⌜ now (device .exit) ≡ overlay (now (device .entry)) (sliceStart g slice)
+        (claimedBytes (g .b) (g .s) (now (key .entry)) (now (ivs .entry)) j (now (text .entry))) ⌝ }
+{
+    let b = g.b;
+    let s = g.s;
+    let start = places::slice_start(g, slice);
+    places::store(device, start, ivs);
+    let mut at = start + b;
+    let mut n = 0;
+    while n < s {
+        let from = 16 * n;
+        let to = from + 16;
+        if n == j {
+            places::store_ctr(device, at, key, &ivs[from..to], text);
+        } else {
+            places::store_zeros(device, at, key, &ivs[from..to], b);
+        }
+        at = at + b;
+        n += 1;
+    }
+}
+
+// The work of `write`, on the number of the tape position.
+//
+// No claim can take a slice that another volume holds: the slice is the model's `firstFree` of the owner table as it
+// stands at entry (clause `answered`), and the same call sets its owner (clause `owned`), so that the next claim's search
+// finds it held.
+pub fn write_by(
+    device: &mut [u8],
+    maps: &mut [u32],
+    owners: &mut [u8],
+    perm: &[u32],
+    tape: &[u8],
+    at: &mut usize,
+    session: Session,
+    volume: usize,
+    address: usize,
+    text: &[u8],
+) -> Written
+    ensures { λ r. ⌜ Leaves WriteResult (writeModel (length (now (device .entry)))
+        (held (now (maps .entry)) (now (owners .entry)) (now (at .entry)) session) volume address (now (text .entry)) (now (perm .entry))
+        (now (tape .entry)))
+        (now (device .entry)) (writeResult (r .answer)) (now (device .exit)) (now (maps .exit)) (now (owners .exit)) (now (at .exit)) (r .session) ⌝ }
+{
+    let bad = write_refusal(
+        device.len(),
+        maps,
+        owners,
+        session,
+        volume,
+        address,
+        text.len(),
+        perm.len(),
+    );
+    if let Answer::Refused(r) = bad {
+        return refused(r, 0, session);
+    }
+    let g = session.geometry;
+    let slice = address / g.s;
+    let j = address % g.s;
+    let position = *at;
+    let keys = session.keys;
+    let from = 32 * volume;
+    let to = from + 32;
+    let entry = tables::entry_at(maps, g, volume, slice);
+    if entry < g.p {
+        if tape::is_short(tape.len(), position, 16) {
+            return refused(Refusal::TapeShort, 0, session);
+        }
+        rewrite(
+            device,
+            g,
+            &keys[from..to],
+            tape::draw_by(tape, at, 16),
+            entry,
+            j,
+            text,
+        );
+        return served(Change::Rewritten(entry), 0, session);
+    }
+    let found = tables::first_free(owners, perm, 0);
+    match found {
+        Search::Bad(place) => refused(Refusal::BadPermutation, place + 1, session),
+        Search::Full => refused(Refusal::NoFreeSlice, perm.len(), session),
+        Search::Free { slice: free, place } => {
+            let b = g.b;
+            if tape::is_short(tape.len(), position, b) {
+                return refused(Refusal::TapeShort, place + 1, session);
+            }
+            claim(
+                device,
+                g,
+                &keys[from..to],
+                tape::draw_by(tape, at, b),
+                free,
+                j,
+                text,
+            );
+            let slot = volume * g.p + slice;
+            maps[slot] = free as u32;
+            owners[free] = (volume + 1) as u8;
+            served(Change::Claimed(free), place + 1, session)
+        }
+    }
+}
+
+// A write that was refused, and one that was served.
+fn refused(refusal: Refusal, probes: usize, session: Session) -> Written
+    ensures { λ r. ⌜ (r .answer ≡ WriteAnswer.Refused refusal probes) × (r .session ≡ session) ⌝ }
+{
+    Written {
+        answer: WriteAnswer::Refused {
+            refusal: refusal,
+            probes: probes,
+        },
+        session: session,
+    }
+}
+
+fn served(change: Change, probes: usize, session: Session) -> Written
+    ensures { λ r. ⌜ (r .answer ≡ WriteAnswer.Served change probes) × (r .session ≡ session) ⌝ }
+{
+    Written {
+        answer: WriteAnswer::Served {
+            change: change,
+            probes: probes,
+        },
+        session: session,
+    }
+}
+
+// Write of a block, the tape position lent as a record. Walked by hand.
+pub fn write(
+    device: &mut [u8],
+    maps: &mut [u32],
+    owners: &mut [u8],
+    perm: &[u32],
+    tape: &[u8],
+    position: &mut TapePosition,
+    session: Session,
+    volume: usize,
+    address: usize,
+    text: &[u8],
+) -> Written
+    ensures { λ r. ⌜ Leaves WriteResult (writeModel (length (now (device .entry)))
+        (held (now (maps .entry)) (now (owners .entry)) (now (position .entry) .at) session) volume address (now (text .entry)) (now (perm .entry))
+        (now (tape .entry)))
+        (now (device .entry)) (writeResult (r .answer)) (now (device .exit)) (now (maps .exit)) (now (owners .exit)) (now (position .exit) .at)
+        (r .session) ⌝ }
+{
+    write_by(
+        device,
+        maps,
+        owners,
+        perm,
+        tape,
+        &mut position.at,
+        session,
+        volume,
+        address,
+        text,
+    )
+}
