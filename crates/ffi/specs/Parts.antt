@@ -73,7 +73,7 @@ closeNumber (CloseResult.Refused n) = n
 abbrev pub copiedOver : (found old : List ℕ) → List ℕ
 copiedOver found old = choose (leb (length found) (length old)) (overlay old 0 found) old
 
--- What a write hands over: by its outcome, or, where the keys do not fit, 13 with everything as it was.
+-- What a write hands over: by its outcome, or, where the keys do not fit, 13 with three numbers 0 and all else as it was.
 pub record WriteHanded (keys : List ℕ) (o : Outcome WriteResult) (device₀ maps₀ owners₀ : List ℕ) (position₀ : ℕ) (number : ℕ)
     (device maps owners : List ℕ) (position claimed slice probes : ℕ) : Type 0 where
   pub number-is : number ≡ orKeys keys (writeNumber (o .answer))
@@ -85,7 +85,7 @@ pub record WriteHanded (keys : List ℕ) (o : Outcome WriteResult) (device₀ ma
   pub owned : owners ≡ choose (keysFit keys) (o .held .owners) owners₀
   pub moved : position ≡ choose (keysFit keys) (o .held .position) position₀
 
--- What a close hands over, likewise.
+-- What a close hands over: by its outcome, or, where the keys do not fit, 13 with everything as it was.
 pub record CloseHanded (keys₀ : List ℕ) (o : Outcome CloseResult) (device₀ maps₀ owners₀ : List ℕ) (position₀ opened₀ : ℕ) (number : ℕ)
     (device maps owners : List ℕ) (position : ℕ) (keys : List ℕ) (opened : ℕ) : Type 0 where
   pub number-is : number ≡ orKeys keys₀ (closeNumber (o .answer))

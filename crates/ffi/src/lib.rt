@@ -112,8 +112,8 @@ pub extern "C" fn hiwalgam_gcm_open(
 // ---- the engine
 //
 // A session is handed over by its parts: b, s, p (the geometry), k, keys (480 bytes) and opened (0 for closed). Keys of
-// another length than 480 are 13 before everything else, and then nothing is changed. The map table and the permutation
-// are arrays of `uint32_t`, their lengths counted in entries.
+// another length than 480 are 13 before everything else (finding: length 0), and then device, tables, tape position and
+// buffers stay. The map table and the permutation are arrays of `uint32_t`, their lengths counted in entries.
 
 // The keys of a session.
 fn keys_of(keys: &[u8]) -> [u8; 480]

@@ -1,5 +1,5 @@
 -- `ffi::hiwalgam_find` meets its contract. Assumes nothing.
-use mathlib.Core.Path.{_∙_, ap}
+use mathlib.Core.Path.{ap}
 use lib.ListN.{length}
 use borrow.Author.Needs.{needs}
 use Rattle.ffi.proofs.Handed.{choose-fit, choose-unfit, copiedOver-room, copiedOver-none}
