@@ -29,7 +29,7 @@ fn map_entry(maps: &[u32], g: Geometry, volume: usize, slice: usize) -> usize
     if slice < g.p {
         return tables::entry_at(maps, g, volume, slice);
     }
-    4294967295
+    tables::UNMAPPED
 }
 
 // The entries of map block t of a volume as bytes.

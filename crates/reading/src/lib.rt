@@ -64,7 +64,7 @@ pub fn check_asked(
         return Answer::Refused(Refusal::WrongLength);
     }
     let entry = tables::entry_at(maps, g, volume, address / g.s);
-    if entry != 4294967295 {
+    if entry != tables::UNMAPPED {
         if g.p <= entry {
             return Answer::Refused(Refusal::BadEntry);
         }

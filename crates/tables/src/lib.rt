@@ -1,11 +1,10 @@
 // The lent tables: the map table, the owner table and the permutation.
 ghost use mathlib.Core.Path.{_≡_};
-ghost use Prim.Native.Nat.{_+_, _-_, _*_, _≤_, _<_};
+ghost use Prim.Native.Nat.{_+_, _*_, _≤_, _<_};
 ghost use lib.ListN.{length, replicate};
 ghost use Rattle.refusals.specs.Numbers.{answerNumber};
-ghost use Rattle.model.specs.Geometry.{numberAt};
 ghost use Rattle.model.specs.Session.{slot, entry, unmapped};
-ghost use Rattle.model.specs.Opening.{missing, settle, load, Tables};
+ghost use Rattle.model.specs.Opening.{missing, settle, Tables};
 ghost use Rattle.model.specs.Write.{firstFree};
 ghost use Rattle.model.specs.Close.{anyBad};
 ghost use Rattle.tables.specs.Flagged.{flagged, anyZero};
@@ -16,7 +15,7 @@ use refusals::Answer;
 use refusals::Refusal;
 
 // The mark of an unmapped logical slice (document 01: FFFFFFFF).
-pub const UNMAPPED: u32 = 4294967295;
+pub const UNMAPPED: usize = 4294967295;
 
 // ---- the map table
 
@@ -35,7 +34,7 @@ pub fn unmap(maps: &mut [u32])
 {
     let mut i = 0;
     while i < maps.len() {
-        maps[i] = 4294967295;
+        maps[i] = UNMAPPED as u32;
         i += 1;
     }
 }
@@ -48,7 +47,7 @@ pub fn any_bad(maps: &[u32], p: usize, n: usize) -> bool
     let mut i = 0;
     while i < n {
         let entry = maps[i] as usize;
-        if entry != 4294967295 {
+        if entry != UNMAPPED {
             if p <= entry {
                 return true;
             }
@@ -128,7 +127,7 @@ pub fn settle_one(maps: &mut [u32], owners: &mut [u8], x: usize, i: usize) -> An
     ensures { λ r. ⌜ Settled (settle (length (now (owners .entry))) x i (now (maps .entry)) (now (owners .entry)) Tables) (answerNumber r)
         (now (maps .exit)) (now (owners .exit)) ⌝ }
 {
-    if x == 4294967295 {
+    if x == UNMAPPED {
         return Answer::Served;
     }
     let p = owners.len();
