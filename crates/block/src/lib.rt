@@ -1,7 +1,7 @@
-// A block of 128 bits as two halves of 64, its bytes, and the counter's sum over all 128 bits.
+// A block of 128 bits as two halves of 64, its bytes, and the counter's sum over all 128 bits; and the copying of bytes.
 ghost use mathlib.Core.Path.{_≡_};
 ghost use Prim.Native.Nat.{_+_, _%_, _^_, _<_};
-ghost use lib.ListN.{getD};
+ghost use lib.ListN.{length, getD};
 ghost use Rattle.block.specs.Bytes.{number, bigEndian, window};
 ghost use Rattle.block.specs.Number.{blockNumber};
 
@@ -88,5 +88,17 @@ pub fn add(b: Block, n: u64) -> Block
         }
     } else {
         Block { hi: b.hi, lo: lo }
+    }
+}
+
+// The bytes of src into dst, which is as long.
+pub fn copy(dst: &mut [u8], src: &[u8])
+    requires { ⌜ length (now dst) ≡ length (now src) ⌝ }
+    ensures { λ r. ⌜ now (dst .exit) ≡ now (src .entry) ⌝ }
+{
+    let mut i = 0;
+    while i < src.len() {
+        dst[i] = src[i];
+        i += 1;
     }
 }

@@ -121,7 +121,7 @@ fn keys_of(keys: &[u8]) -> [u8; 480]
     ensures { λ r. ⌜ r ≡ now (keys .entry) ⌝ }
 {
     let mut a = [0u8; 480];
-    places::copy(&mut a, keys);
+    block::copy(&mut a, keys);
     a
 }
 
@@ -145,7 +145,7 @@ fn hand_keys(session: Session, keys: &mut [u8])
     ensures { λ r. ⌜ now (keys .exit) ≡ session .keys ⌝ }
 {
     let a = session.keys;
-    places::copy(keys, &a);
+    block::copy(keys, &a);
 }
 
 // The number of an opening's answer.

@@ -87,18 +87,6 @@ fn same_tag(a: &[u8], b: &[u8]) -> bool
     d == 0
 }
 
-// The bytes of src into dst, which is as long.
-fn copy(dst: &mut [u8], src: &[u8])
-    requires { ⌜ length (now dst) ≡ length (now src) ⌝ }
-    ensures { λ r. ⌜ now (dst .exit) ≡ now (src .entry) ⌝ }
-{
-    let mut i = 0;
-    while i < src.len() {
-        dst[i] = src[i];
-        i += 1;
-    }
-}
-
 // Sealing (7.1): the ciphertext into out, and its tag.
 pub fn seal_into(key: &[u8], iv: &[u8], aad: &[u8], text: &[u8], out: &mut [u8], tag: &mut [u8])
     requires { ⌜ length (now key) ≡ 32 ⌝ }
@@ -116,7 +104,7 @@ pub fn seal_into(key: &[u8], iv: &[u8], aad: &[u8], text: &[u8], out: &mut [u8],
     let c = counter_block(iv, 2);
     ctr::apply_keystream(&t, &w, c, 0, text, out);
     let m = tag_of(&t, &w, iv, aad, out);
-    copy(tag, &m);
+    block::copy(tag, &m);
 }
 
 // Opening (7.2): whether the tag is right, and the text into out where it is.

@@ -109,7 +109,7 @@ fn open_chain(device: &[u8], g: Geometry, k: usize, vmk: &mut [u8], keys: &mut [
             return bad;
         }
         places::store(keys, 32 * i, &text[0..32]);
-        places::copy(vmk, &text[32..64]);
+        block::copy(vmk, &text[32..64]);
         n = i;
     }
     Answer::Served

@@ -1,4 +1,4 @@
-// Places and parts of a device: the geometry's arithmetic, copying, counter mode over a part, numbers of four bytes.
+// Places and parts of a device: the geometry's arithmetic, storing, counter mode over a part, numbers of four bytes.
 //
 // Each place is given by the model's definition under an allowed geometry, where no arithmetic can wrap: the largest
 // device has 4,312,117,248 bytes, and all of it is computed in 64 bits.
@@ -117,25 +117,13 @@ pub fn clear(buf: &mut [u8])
     }
 }
 
-// The bytes of src into dst, which is as long.
-pub fn copy(dst: &mut [u8], src: &[u8])
-    requires { ⌜ length (now dst) ≡ length (now src) ⌝ }
-    ensures { λ r. ⌜ now (dst .exit) ≡ now (src .entry) ⌝ }
-{
-    let mut i = 0;
-    while i < src.len() {
-        dst[i] = src[i];
-        i += 1;
-    }
-}
-
 // Bytes over what stood from a place on.
 pub fn store(device: &mut [u8], at: usize, d: &[u8])
     requires { ⌜ at + length (now d) ≤ length (now device) ⌝ }
     ensures { λ r. ⌜ now (device .exit) ≡ overlay (now (device .entry)) at (now (d .entry)) ⌝ }
 {
     let end = at + d.len();
-    copy(&mut device[at..end], d);
+    block::copy(&mut device[at..end], d);
 }
 
 // A text in counter mode over what stood from a place on: the part of the device is lent to the counter-mode writer.

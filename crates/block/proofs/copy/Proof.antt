@@ -1,4 +1,4 @@
--- `places::copy` meets its contract. After i turns the first i bytes are those of src. Assumes nothing.
+-- `block::copy` meets its contract. After i turns the first i bytes are those of src. Assumes nothing.
 use mathlib.Core.Path.{_≡_, _∙_}
 use Prim.Native.Nat.{ℕ, _-_, _≤_, _<_}
 use native.Mathlib.Omega.{arith}
@@ -6,8 +6,8 @@ use lib.ListN.{length, getD, length-set}
 use lib.Seq.{getD-set-same, getD-set-other, ext-getD}
 use borrow.Author.Count.{below-more}
 use borrow.Author.Needs.{needs}
-use Rattle.places.proofs.copy.Statement.{statement}
-use Rattle.places.proofs.copy.Tie as tie
+use Rattle.block.proofs.copy.Statement.{statement}
+use Rattle.block.proofs.copy.Tie as tie
 
 abbrev Inv-loop : tie.InvT-loop
 Inv-loop dst₀ src i₀ dst i = (i ≤ length src) × (length dst ≡ length src) × ((k : ℕ) → k < i → getD dst k 0 ≡ getD src k 0)
