@@ -33,16 +33,18 @@ onDevice g n = standing n (15 * g .p) (g .p) (session g 0) 0
 abbrev pub atAddress : Geometry → ℕ → ℕ
 atAddress g a = asked (replicate (15 * g .p) unmapped) (session g 0) 0 a (g .b)
 
--- The answer of a claim with a permutation, the owners and a tape of 1,024 bytes: number, slice and places looked at.
+-- The answer of a write: its number, 0 where served, and the places looked at.
 abbrev pub shown : WriteResult → List ℕ
 shown (WriteResult.Served change probes) = 0 ∷ probes ∷ []
 shown (WriteResult.Refused n probes) = n ∷ probes ∷ []
 
+-- The slice that a search found, the mark where it found none.
 abbrev pub sliceFound : Search → ℕ
 sliceFound (Free ψ place) = ψ
 sliceFound (Bad place) = unmapped
 sliceFound Full = unmapped
 
+-- A claim with owners, a permutation and a tape of 1,024 bytes: the slice that is found, then the answer.
 abbrev pub claims : (owners perm : List ℕ) → List ℕ
 claims owners perm =
     sliceFound (firstFree owners 4 0 perm)

@@ -1,7 +1,7 @@
 // The lent tables: the map table, the owner table and the permutation.
 ghost use mathlib.Core.Path.{_≡_};
 ghost use Prim.Native.Nat.{_+_, _*_, _≤_, _<_};
-ghost use lib.ListN.{length, replicate};
+ghost use lib.ListN.{length, replicate, set};
 ghost use Rattle.refusals.specs.Numbers.{answerNumber};
 ghost use Rattle.model.specs.Session.{slot, entry, unmapped};
 ghost use Rattle.model.specs.Opening.{missing, settle, Tables};
@@ -55,6 +55,25 @@ pub fn any_bad(maps: &[u32], p: usize, n: usize) -> bool
         i += 1;
     }
     false
+}
+
+// A free slice given to a logical slice of a volume: its entry names the slice, and its owner is the volume.
+pub fn assign(
+    maps: &mut [u32],
+    owners: &mut [u8],
+    g: Geometry,
+    volume: usize,
+    logical: usize,
+    slice: usize,
+)
+    requires { ⌜ (length (now maps) ≤ 15 * 4096) × (slot g volume logical < length (now maps)) × (slice < length (now owners)) × (slice < 4096)
+        × (volume ≤ 14) ⌝ }
+    ensures mapped { λ r. ⌜ now (maps .exit) ≡ set (now (maps .entry)) (slot g volume logical) slice ⌝ }
+    ensures owned { λ r. ⌜ now (owners .exit) ≡ set (now (owners .entry)) slice (volume + 1) ⌝ }
+{
+    let at = volume * g.p + logical;
+    maps[at] = slice as u32;
+    owners[slice] = (volume + 1) as u8;
 }
 
 // ---- the permutation

@@ -1,50 +1,25 @@
 // Write: rewriting a mapped block and claiming a slice for an unmapped one.
 //
 // `write` is the public call: any arguments, the tape position lent as one record. It is thin: its number is lent to
-// `write_by`, which does the work. All tests come before the first byte is written and before the position moves.
+// `write_by`, which does the work. All tests come before the first byte is written and before the position moves: they are
+// `deciding::decide`.
 ghost use mathlib.Core.Path.{_≡_};
 ghost use Prim.Native.Nat.{_+_, _*_, _≤_, _<_};
 ghost use lib.ListN.{length};
-ghost use Rattle.refusals.specs.Numbers.{answerNumber};
 ghost use Rattle.ctr.specs.CounterMode.{ctr};
 ghost use Rattle.model.specs.Parts.{overlay};
 ghost use Rattle.model.specs.Geometry.{Allowed, deviceLength, sliceStart, ivStart, blockStart};
 ghost use Rattle.model.specs.Session.{held};
-ghost use Rattle.model.specs.Write.{WriteResult, claimedBytes, writeRefusal, writeModel};
+ghost use Rattle.model.specs.Write.{WriteResult, claimedBytes, writeModel};
 ghost use Rattle.model.specs.Answers.{writeResult, Leaves};
+use deciding::Decision;
 use model::Change;
 use model::Geometry;
-use model::Search;
 use model::Session;
 use model::TapePosition;
 use model::WriteAnswer;
 use model::Written;
-use refusals::Answer;
 use refusals::Refusal;
-
-// All refusals of a write before its search and its tape.
-fn write_refusal(
-    device: usize,
-    maps: &[u32],
-    owners: &[u8],
-    session: Session,
-    volume: usize,
-    address: usize,
-    len: usize,
-    perm: usize,
-) -> Answer
-    ensures { λ r. ⌜ answerNumber r ≡ writeRefusal device (now (maps .entry)) (now (owners .entry)) session volume address len perm ⌝ }
-{
-    let bad = reading::check_standing(device, maps.len(), owners.len(), session);
-    if let Answer::Refused(_) = bad {
-        return bad;
-    }
-    let g = session.geometry;
-    if perm != g.p {
-        return Answer::Refused(Refusal::BadPermutation);
-    }
-    reading::check_asked(maps, session, volume, address, len)
-}
 
 // Block j of a slice stored anew under a fresh IV, over the old block where that block begins on the device.
 fn rewrite(
@@ -123,64 +98,51 @@ pub fn write_by(
         (now (tape .entry)))
         (now (device .entry)) (writeResult (r .answer)) (now (device .exit)) (now (maps .exit)) (now (owners .exit)) (now (at .exit)) (r .session) ⌝ }
 {
-    let bad = write_refusal(
+    let decision = deciding::decide(
         device.len(),
         maps,
         owners,
+        perm,
+        tape.len(),
+        *at,
         session,
         volume,
         address,
         text.len(),
-        perm.len(),
     );
-    if let Answer::Refused(r) = bad {
-        return refused(r, 0, session);
-    }
     let g = session.geometry;
-    let slice = address / g.s;
-    let j = address % g.s;
-    let position = *at;
-    let keys = session.keys;
-    let from = 32 * volume;
-    let to = from + 32;
-    let entry = tables::entry_at(maps, g, volume, slice);
-    if entry < g.p {
-        if tape::is_short(tape.len(), position, 16) {
-            return refused(Refusal::TapeShort, 0, session);
+    match decision {
+        Decision::Refused { refusal, probes } => refused(refusal, probes, session),
+        Decision::Rewrite(slice) => {
+            let keys = session.keys;
+            let from = 32 * volume;
+            let to = from + 32;
+            rewrite(
+                device,
+                g,
+                &keys[from..to],
+                tape::draw_by(tape, at, 16),
+                slice,
+                address % g.s,
+                text,
+            );
+            served(Change::Rewritten(slice), 0, session)
         }
-        rewrite(
-            device,
-            g,
-            &keys[from..to],
-            tape::draw_by(tape, at, 16),
-            entry,
-            j,
-            text,
-        );
-        return served(Change::Rewritten(entry), 0, session);
-    }
-    let found = tables::first_free(owners, perm, 0);
-    match found {
-        Search::Bad(place) => refused(Refusal::BadPermutation, place + 1, session),
-        Search::Full => refused(Refusal::NoFreeSlice, perm.len(), session),
-        Search::Free { slice: free, place } => {
-            let b = g.b;
-            if tape::is_short(tape.len(), position, b) {
-                return refused(Refusal::TapeShort, place + 1, session);
-            }
+        Decision::Claim { slice, place } => {
+            let keys = session.keys;
+            let from = 32 * volume;
+            let to = from + 32;
             claim(
                 device,
                 g,
                 &keys[from..to],
-                tape::draw_by(tape, at, b),
-                free,
-                j,
+                tape::draw_by(tape, at, g.b),
+                slice,
+                address % g.s,
                 text,
             );
-            let slot = volume * g.p + slice;
-            maps[slot] = free as u32;
-            owners[free] = (volume + 1) as u8;
-            served(Change::Claimed(free), place + 1, session)
+            tables::assign(maps, owners, g, volume, address / g.s, slice);
+            served(Change::Claimed(slice), place + 1, session)
         }
     }
 }

@@ -1,7 +1,9 @@
 -- `reading::check_standing` meets its contract: each return is the first refusal whose test holds. Assumes nothing.
-use Prim.Native.Nat.{ℕ}
+use Prim.Native.Nat.{ℕ, _*_}
 use mathlib.Core.Path.{_≡_, sym, ap, _∙_}
+use mathlib.Core.Bool.{not}
 use native.Mathlib.Omega.{arith}
+use lib.Dec.{eqb}
 use borrow.Author.Needs.{needs}
 use borrow.Author.Tests.{lt-ltb, le-ltb, eq-eqb, ne-eqb}
 use Rattle.refusals.specs.Numbers.{refuse, answerNumber}
@@ -51,46 +53,31 @@ returns-4 c =
       ne-eqb _ _ (λ e. c .if3 .taken (e ∙ sym (c .before .device-length .ensures))),
     )
 
-returns-5 : tie.Need-returns-5
+-- Past the device's length: the tables' lengths speak.
+device-passed : (c : tie.Else3) → let a = start (c .before .before .before .before) .args in
+    standing (a .device) (a .maps) (a .owners) (a .session) 0
+    ≡ refuse (not (eqb (a .maps) (15 * a .session .geometry .p))) 4 (refuse (not (eqb (a .owners) (a .session .geometry .p))) 4 0)
 unfolding standing refuse
-returns-5 c =
-    let long = c .before .before in
-    let told = long .before .before .before .before in
+device-passed c =
+    let told = c .before .before .before .before in
     simp (
       told .before .before .before .before .if1 .left,
       geometry-passed told,
-      le-ltb _ _ (long .before .before .if2 .left),
-      eq-eqb _ _ (long .if3 .left ∙ long .before .device-length .ensures),
-      ne-eqb _ _ (c .if4 .taken),
+      le-ltb _ _ (c .before .before .if2 .left),
+      eq-eqb _ _ (c .if3 .left ∙ c .before .device-length .ensures),
     )
+
+returns-5 : tie.Need-returns-5
+unfolding refuse
+returns-5 c = simp (device-passed (c .before .before), ne-eqb _ _ (c .if4 .taken))
 
 returns-6 : tie.Need-returns-6
-unfolding standing refuse
-returns-6 c =
-    let long = c .before .before .before .before in
-    let told = long .before .before .before .before in
-    simp (
-      told .before .before .before .before .if1 .left,
-      geometry-passed told,
-      le-ltb _ _ (long .before .before .if2 .left),
-      eq-eqb _ _ (long .if3 .left ∙ long .before .device-length .ensures),
-      eq-eqb _ _ (c .before .before .if4 .left),
-      ne-eqb _ _ (c .if5 .taken),
-    )
+unfolding refuse
+returns-6 c = simp (device-passed (c .before .before .before .before), eq-eqb _ _ (c .before .before .if4 .left), ne-eqb _ _ (c .if5 .taken))
 
 returns-7 : tie.Need-returns-7
-unfolding standing refuse
-returns-7 c =
-    let long = c .before .before .before .before in
-    let told = long .before .before .before .before in
-    simp (
-      told .before .before .before .before .if1 .left,
-      geometry-passed told,
-      le-ltb _ _ (long .before .before .if2 .left),
-      eq-eqb _ _ (long .if3 .left ∙ long .before .device-length .ensures),
-      eq-eqb _ _ (c .before .before .if4 .left),
-      eq-eqb _ _ (c .if5 .left),
-    )
+unfolding refuse
+returns-7 c = simp (device-passed (c .before .before .before .before), eq-eqb _ _ (c .before .before .if4 .left), eq-eqb _ _ (c .if5 .left))
 
 pub check-standing-spec : {M : Type 1} → statement M
 check-standing-spec =

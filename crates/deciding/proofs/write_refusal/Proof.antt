@@ -1,4 +1,4 @@
--- `writing::write_refusal` meets its contract. Assumes nothing.
+-- `deciding::write_refusal` meets its contract. Assumes nothing.
 use mathlib.Core.Path.{sym, ap, _∙_}
 use lib.ListN.{length}
 use borrow.Author.Needs.{needs}
@@ -7,8 +7,8 @@ use Rattle.refusals.specs.Numbers.{refuse, answerNumber}
 use Rattle.model.specs.Write.{writeRefusal}
 use Rattle.model.proofs.Requests.{Stands, standing-none, standing-stands}
 use Rattle.reading.proofs.Order.{answer-positive, standing-first}
-use Rattle.writing.proofs.write_refusal.Statement.{statement}
-use Rattle.writing.proofs.write_refusal.Tie as tie
+use Rattle.deciding.proofs.write_refusal.Statement.{statement}
+use Rattle.deciding.proofs.write_refusal.Tie as tie
 
 stands : (c : tie.After-enum-told2)
     → let a = c .before .before .before .before .before .args in Stands (a .device) (length (a .maps .now)) (length (a .owners .now)) (a .session)

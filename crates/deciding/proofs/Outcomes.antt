@@ -1,0 +1,159 @@
+-- What is decided on a write, by the tests that the code makes. Assumes nothing.
+use Prim.Native.Nat.{ℕ, suc, _+_, _≤_, _<_}
+use mathlib.Core.Path.{_≡_, refl, _∙_}
+use mathlib.Core.Bool.{Bool, true, false}
+use mathlib.Core.List.{List, [], _∷_}
+use native.Mathlib.Nat.{sub-zero}
+use native.Mathlib.Omega.{arith}
+use lib.Dec.{ltb, eqb}
+use lib.ListN.{length, drop, getD}
+use borrow.Author.Tests.{lt-ltb, le-ltb, ltb-true, eqb-true, not-false}
+use Rattle.refusals.specs.Numbers.{refusalNumber}
+use Rattle.refusals.specs.declared.Refusal.{Refusal}
+use Rattle.refusals.specs.declared.Refusal.the-variants.{TapeShort, BadPermutation, NoFreeSlice}
+use Rattle.refusals.proofs.Positive.{refusal-positive}
+use Rattle.model.specs.declared.Geometry.{Geometry}
+use Rattle.model.specs.declared.Session.{Session}
+use Rattle.model.specs.declared.Search.{Search}
+use Rattle.model.specs.declared.Search.the-variants.{Free, Bad, Full}
+use Rattle.model.specs.Session.{Held, held, sliceOf, offsetOf, entryOf, short}
+use Rattle.model.specs.Write.{seen, search, firstFree, rewriteOutcome, claimOutcome, writeRefusal, writeModel}
+use Rattle.model.proofs.Tests.{refuse-none}
+use Rattle.model.proofs.Requests.{Stands, standing-none, Asked, asked-none, short-false}
+use Rattle.reading.proofs.Order.{unless-refused}
+use Rattle.deciding.specs.declared.Decision.{Decision}
+use Rattle.deciding.specs.declared.Decision.the-variants.{Refused, Rewrite, Claim}
+use Rattle.deciding.specs.Decided.{Decided}
+
+-- ---- the search of a claim
+
+module _ (owners : List ℕ) (p : ℕ) where
+  search-free : (place : ℕ) (slices : List ℕ) (ψ q : ℕ) → search owners p place slices ≡ Free ψ q → (ψ < p) × (q < place + length slices)
+  unfolding search
+  search-free place [] ψ q e = let z : _≡_ {A = ℕ} 0 1 = cc in absurd (omega arith)
+  search-free place (φ ∷ slices) ψ q e = go (ltb φ p) refl (eqb (getD owners φ 0) 0) (search-free (suc place) slices ψ q) e
+    where
+      go : (x : Bool) → ltb φ p ≡ x → (y : Bool)
+          → (search owners p (suc place) slices ≡ Free ψ q → (ψ < p) × (q < suc place + length slices))
+          → seen x y φ place (search owners p (suc place) slices) ≡ Free ψ q → (ψ < p) × (q < place + suc (length slices))
+      go false l y later f = let z : _≡_ {A = ℕ} 0 1 = cc in absurd (omega arith)
+      go true l true later f =
+          let same : φ ≡ ψ = cc in
+          let here : place ≡ q = cc in
+          (omega (arith, ltb-true φ p l), omega arith)
+      go true l false later f = (later f .0, omega (arith, later f .1))
+
+  search-bad : (place : ℕ) (slices : List ℕ) (q : ℕ) → search owners p place slices ≡ Bad q → q < place + length slices
+  unfolding search
+  search-bad place [] q e = let z : _≡_ {A = ℕ} 0 1 = cc in absurd (omega arith)
+  search-bad place (φ ∷ slices) q e = go (ltb φ p) (eqb (getD owners φ 0) 0) (search-bad (suc place) slices q) e
+    where
+      go : (x y : Bool) → (search owners p (suc place) slices ≡ Bad q → q < suc place + length slices)
+          → seen x y φ place (search owners p (suc place) slices) ≡ Bad q → q < place + suc (length slices)
+      go false y later f = let here : place ≡ q = cc in omega arith
+      go true true later f = let z : _≡_ {A = ℕ} 0 1 = cc in absurd (omega arith)
+      go true false later f = omega (arith, later f)
+
+module _ (owners : List ℕ) (p start : ℕ) (perm : List ℕ) where
+  -- A slice that is found is one, and a place that is found is one of the permutation's.
+  pub firstFree-free : (ψ q : ℕ) → firstFree owners p start perm ≡ Free ψ q → (ψ < p) × (q < start + length (drop start perm))
+  unfolding firstFree
+  firstFree-free ψ q e = search-free owners p start (drop start perm) ψ q e
+
+  pub firstFree-bad : (q : ℕ) → firstFree owners p start perm ≡ Bad q → q < start + length (drop start perm)
+  unfolding firstFree
+  firstFree-bad q e = search-bad owners p start (drop start perm) q e
+
+-- ---- refusals before the search and the tape
+
+-- A write that none of them applies to.
+pub record Writable (device : ℕ) (maps owners : List ℕ) (s : Session) (i a len perm : ℕ) : Type 0 where
+  pub none : writeRefusal device maps owners s i a len perm ≡ 0
+  pub stands : Stands device (length maps) (length owners) s
+  pub places : perm ≡ s .geometry .p
+  pub asked : Asked maps s i a len
+
+pub writeRefusal-none : (device : ℕ) (maps owners : List ℕ) (s : Session) (i a len perm : ℕ) → writeRefusal device maps owners s i a len perm ≡ 0
+    → Writable device maps owners s i a len perm
+unfolding writeRefusal
+writeRefusal-none device maps owners s i a len perm e =
+    let p = standing-none _ _ _ _ _ e in
+    let q = refuse-none _ _ _ (p .1) in
+    record { none = e; stands = p .0; places = eqb-true _ _ (not-false _ (q .0)); asked = asked-none _ _ _ _ _ (q .1) }
+
+-- ---- the decision
+
+module _ (device : ℕ) (maps owners : List ℕ) (position : ℕ) (s : Session) (i a len : ℕ) (perm : List ℕ) (tape : ℕ) where
+  abbrev lent : Held
+  lent = held maps owners position s
+
+  abbrev g : Geometry
+  g = s .geometry
+
+  -- A decision that is right for every text and tape of these lengths.
+  abbrev Right : Decision → Type 0
+  Right d = (text bytes : List ℕ) → length text ≡ len → length bytes ≡ tape → Decided device lent i a text perm bytes d
+
+  pub refused-first : (r : Refusal) → refusalNumber r ≡ writeRefusal device maps owners s i a len (length perm) → Right (Refused r 0)
+  unfolding writeModel
+  refused-first r e text bytes t b = rw (t, ← e) (unless-refused (refusalNumber r) _ _ (refusal-positive r))
+
+  module _ (w : Writable device maps owners s i a len (length perm)) where
+    -- ---- a mapped block
+
+    module _ (x : ℕ) (e : x ≡ entryOf maps g i a) (below : x < g .p) where
+      mapped : (text bytes : List ℕ) → length text ≡ len
+          → writeModel device lent i a text perm bytes ≡ rewriteOutcome lent i x (offsetOf g a) text bytes
+      unfolding writeModel
+      mapped text bytes t = rw (t, w .none, ← e, lt-ltb x (g .p) below)
+
+      pub rewrite-short : short tape position 16 ≡ true → Right (Refused TapeShort 0)
+      rewrite-short q text bytes t b = mapped text bytes t ∙ rw (b, q)
+
+      pub rewrite-served : short tape position 16 ≡ false → Right (Rewrite x)
+      rewrite-served q text bytes t b =
+          record {
+            outcome = mapped text bytes t ∙ rw (b, q);
+            none = rw t (w .none);
+            slice = below;
+            enough = rw b (short-false _ _ _ q);
+          }
+
+    -- ---- a claim
+
+    -- A place that the search ends at is one of the permutation's.
+    place-below : (n : ℕ) → n < 0 + length (drop 0 perm) → n < g .p
+    place-below n l = omega (arith, w .places)
+
+    pub bad-place : (place : ℕ) → firstFree owners (g .p) 0 perm ≡ Bad place → place < g .p
+    bad-place place q = place-below place (firstFree-bad owners (g .p) 0 perm place q)
+
+    pub free-place : (ψ place : ℕ) → firstFree owners (g .p) 0 perm ≡ Free ψ place → place < g .p
+    free-place ψ place q = place-below place (firstFree-free owners (g .p) 0 perm ψ place q .1)
+
+    module _ (x : ℕ) (e : x ≡ entryOf maps g i a) (past : g .p ≤ x) (found : Search) (f : firstFree owners (g .p) 0 perm ≡ found) where
+      unmapped-searched : (text bytes : List ℕ) → length text ≡ len
+          → writeModel device lent i a text perm bytes ≡ claimOutcome lent i (sliceOf g a) (offsetOf g a) text bytes found
+      unfolding writeModel
+      unmapped-searched text bytes t = rw (t, w .none, ← e, le-ltb x (g .p) past, f)
+
+      pub claim-bad : (place : ℕ) → found ≡ Bad place → Right (Refused BadPermutation (place + 1))
+      claim-bad place q text bytes t b = unmapped-searched text bytes t ∙ rw (q, sub-zero (place + 1)) refl
+
+      pub claim-full : found ≡ Full → Right (Refused NoFreeSlice (length perm))
+      claim-full q text bytes t b = unmapped-searched text bytes t ∙ rw (q, w .places, sub-zero (g .p)) refl
+
+      module _ (ψ place : ℕ) (q : found ≡ Free ψ place) where
+        pub claim-short : short tape position (g .b) ≡ true → Right (Refused TapeShort (place + 1))
+        claim-short z text bytes t b = unmapped-searched text bytes t ∙ rw (q, b, z, sub-zero (place + 1)) refl
+
+        pub claim-served : short tape position (g .b) ≡ false → Right (Claim ψ place)
+        claim-served z text bytes t b = (
+          record {
+            outcome = unmapped-searched text bytes t ∙ rw (q, b, z) refl;
+            none = rw t (w .none);
+            slice = firstFree-free owners (g .p) 0 perm ψ place (f ∙ q) .0;
+            enough = rw b (short-false _ _ _ z);
+          },
+          free-place ψ place (f ∙ q),
+        )

@@ -1,0 +1,116 @@
+// What a write is to do, before anything is written: the refusals in their order, the search of a claim, and the tape.
+//
+// `decide` takes any arguments. It looks at the tables and at the lengths of device, text and tape, never at their bytes.
+ghost use mathlib.Core.Path.{_≡_};
+ghost use mathlib.Core.List.{List};
+ghost use Prim.Native.Nat.{ℕ};
+ghost use lib.ListN.{length};
+ghost use Rattle.refusals.specs.Numbers.{answerNumber};
+ghost use Rattle.model.specs.Session.{held};
+ghost use Rattle.model.specs.Write.{writeRefusal};
+ghost use Rattle.deciding.specs.Decided.{Decided};
+use model::Search;
+use model::Session;
+use refusals::Answer;
+use refusals::Refusal;
+
+// A write is refused, with the places looked at; or it rewrites a block of the slice that its entry names; or it claims the
+// free slice that was found at a place of the permutation.
+pub enum Decision {
+    Refused { refusal: Refusal, probes: usize },
+    Rewrite(usize),
+    Claim { slice: usize, place: usize },
+}
+
+// All refusals of a write before its search and its tape.
+fn write_refusal(
+    device: usize,
+    maps: &[u32],
+    owners: &[u8],
+    session: Session,
+    volume: usize,
+    address: usize,
+    len: usize,
+    perm: usize,
+) -> Answer
+    ensures { λ r. ⌜ answerNumber r ≡ writeRefusal device (now (maps .entry)) (now (owners .entry)) session volume address len perm ⌝ }
+{
+    let bad = reading::check_standing(device, maps.len(), owners.len(), session);
+    if let Answer::Refused(_) = bad {
+        return bad;
+    }
+    let g = session.geometry;
+    if perm != g.p {
+        return Answer::Refused(Refusal::BadPermutation);
+    }
+    reading::check_asked(maps, session, volume, address, len)
+}
+
+// The decision on a write of len bytes to a device of so many bytes, with a tape of so many bytes and its position. What
+// it says holds of the model's write for every text and every tape of these lengths.
+pub fn decide(
+    device: usize,
+    maps: &[u32],
+    owners: &[u8],
+    perm: &[u32],
+    tape: usize,
+    position: usize,
+    session: Session,
+    volume: usize,
+    address: usize,
+    len: usize,
+) -> Decision
+    ensures { λ r. ⌜ ((text bytes : List ℕ) → length text ≡ len → length bytes ≡ tape
+        → Decided device (held (now (maps .entry)) (now (owners .entry)) position session) volume address text (now (perm .entry)) bytes r) ⌝ }
+{
+    let bad = write_refusal(
+        device,
+        maps,
+        owners,
+        session,
+        volume,
+        address,
+        len,
+        perm.len(),
+    );
+    if let Answer::Refused(r) = bad {
+        return Decision::Refused {
+            refusal: r,
+            probes: 0,
+        };
+    }
+    let g = session.geometry;
+    let entry = tables::entry_at(maps, g, volume, address / g.s);
+    if entry < g.p {
+        if tape::is_short(tape, position, 16) {
+            return Decision::Refused {
+                refusal: Refusal::TapeShort,
+                probes: 0,
+            };
+        }
+        return Decision::Rewrite(entry);
+    }
+    let found = tables::first_free(owners, perm, 0);
+    match found {
+        Search::Bad(place) => Decision::Refused {
+            refusal: Refusal::BadPermutation,
+            probes: place + 1,
+        },
+        Search::Full => Decision::Refused {
+            refusal: Refusal::NoFreeSlice,
+            probes: perm.len(),
+        },
+        Search::Free { slice, place } => {
+            if tape::is_short(tape, position, g.b) {
+                return Decision::Refused {
+                    refusal: Refusal::TapeShort,
+                    probes: place + 1,
+                };
+            }
+            Decision::Claim {
+                slice: slice,
+                place: place,
+            }
+        }
+    }
+}
