@@ -1,10 +1,12 @@
 //! The proved library and a plain Rust build of the same ciphers and the same engine, with one
-//! interface, so that tests and benchmarks can run one against the other.
+//! interface, so that tests and benchmarks can run one against the other. The proved program
+//! `slicewalk` and the plain walk are a second such pair, with lines for their interface.
 
 pub mod engine;
 pub mod inputs;
 pub mod library;
 pub mod plain;
+pub mod walk;
 
 /// The call was served.
 pub const SERVED: u8 = 0;
@@ -34,6 +36,8 @@ pub const WRONG_VOLUME: u8 = 11;
 pub const WRONG_ADDRESS: u8 = 12;
 /// Another length, or the position, is outside its limits.
 pub const WRONG_LENGTH: u8 = 13;
+/// A line of the walk is malformed.
+pub const WRONG_LINE: u8 = 14;
 /// The authentication tag differs.
 pub const WRONG_TAG: u8 = 15;
 /// The session is closed, its geometry is not allowed, or its k is above 14.

@@ -1,0 +1,185 @@
+-- The states that a walk reaches, and the answers that its lines get. Assumes nothing.
+use Prim.Native.Nat.{ℕ, zero, suc, _+_, _*_, _/_, _≤_, _<_}
+use mathlib.Core.Path.{_≡_, refl, _∙_}
+use mathlib.Core.Bool.{Bool, true, false, and-eq-true-iff, false≢true}
+use mathlib.Core.Logic.{_⊎_, inl, inr, ⊎-elim}
+use mathlib.Core.List.{List, [], _∷_}
+use native.Mathlib.Omega.{arith}
+use lib.Dec.{ltb, eqb, lit≤}
+use lib.ListN.{length, getD, set, replicate, length-set, length-replicate}
+use borrow.Author.Tests.{leb-false, eqb-true, not-false}
+use Rattle.refusals.specs.Numbers.{refuse}
+use Rattle.model.specs.declared.Geometry.{Geometry}
+use Rattle.model.specs.declared.Session.{Session}
+use Rattle.model.specs.Geometry.{Allowed, badGeometry}
+use Rattle.model.specs.Session.{Held, geometry, offsetOf, unmapped}
+use Rattle.model.specs.Opening.{member}
+use Rattle.model.specs.Conditions.{EntryFits}
+use Rattle.model.proofs.Tests.{badGeometry-none}
+use Rattle.places.proofs.Bounds.{b-bounds}
+use Rattle.walk.specs.Hexadecimal.{Spelt, Bytes, Neither, decode}
+use Rattle.walk.specs.State.{State, empty}
+use Rattle.walk.specs.Frames.{Stepped, refusedBy, sizeOf, onSize, pairs, onOrder, printed, counting, written, onClaim, onKind, onFrame, step}
+use Rattle.walk.specs.Theorems.{Reached, begin, after, answerNumbers}
+use Rattle.walk.proofs.Engine.{choose-cases, unless-cases, Fits, FitsOf, write-cases}
+
+-- ---- the invariant
+
+-- What every reached state has.
+record Sound (w : State) : Type 0 where
+  drawn : w .held .position ≤ 4096 * w .counted
+  fits : w .sized ≡ true → FitsOf (w .held)
+  places : w .shuffled ≡ true → length (w .perm) ≡ geometry (w .held) .p
+
+-- A line that gets a listed answer and leaves a sound state.
+record Good (s : Stepped) : Type 0 where
+  listed : member (getD (s .answer) 0 255) answerNumbers ≡ true
+  sound : Sound (s .state)
+
+-- ---- tables
+
+-- What holds of every entry of a list and of a value holds of every entry once the value is set.
+getD-set-every : (P : ℕ → Type 0) (s : List ℕ) (at x : ℕ) → ((n : ℕ) → P (getD s n 0)) → P x → (n : ℕ) → P (getD (set s at x) n 0)
+getD-set-every P [] at x every new n = every n
+getD-set-every P (y ∷ s) zero x every new zero = new
+getD-set-every P (y ∷ s) zero x every new (suc n) = every (suc n)
+getD-set-every P (y ∷ s) (suc at) x every new zero = every zero
+getD-set-every P (y ∷ s) (suc at) x every new (suc n) = getD-set-every P s at x (λ m. every (suc m)) new n
+
+-- What holds of a value and of 0 holds of every entry, and past the end, of a list of that value.
+getD-replicate-every : (P : ℕ → Type 0) (k x : ℕ) → P x → P 0 → (n : ℕ) → P (getD (replicate k x) n 0)
+getD-replicate-every P zero x here past n = past
+getD-replicate-every P (suc k) x here past zero = here
+getD-replicate-every P (suc k) x here past (suc n) = getD-replicate-every P k x here past n
+
+empty-fits : (g : Geometry) → Allowed g → FitsOf (empty g)
+empty-fits g ok =
+    record {
+      stands =
+          record {
+            usable = record { opened = refl; allowed = ok; top = lit≤ tt };
+            long = refl;
+            tables = (length-replicate _ _, length-replicate _ _);
+          };
+      entries = getD-replicate-every (EntryFits g) (15 * g .p) unmapped (inl refl) (inr (ok .slices-least));
+    }
+
+claimed-fits : (maps owners : List ℕ) (s : Session) → Fits maps owners s → (at ψ owner : ℕ) → ψ < s .geometry .p
+    → Fits (set maps at ψ) (set owners ψ owner) s
+claimed-fits maps owners s f at ψ owner l =
+    let t = f .stands in
+    record {
+      stands =
+          record { usable = t .usable; long = t .long; tables = (length-set maps at ψ ∙ t .tables .0, length-set owners ψ owner ∙ t .tables .1) };
+      entries = getD-set-every (EntryFits (s .geometry)) maps at ψ (f .entries) (inr l);
+    }
+
+-- ---- a geometry and a permutation
+
+-- A chain of refusals by one number gives that number or 0.
+refuse-either : (b : Bool) (n rest : ℕ) → (rest ≡ n) ⊎ (rest ≡ 0) → (refuse b n rest ≡ n) ⊎ (refuse b n rest ≡ 0)
+unfolding refuse
+refuse-either true n rest later = inl refl
+refuse-either false n rest later = later
+
+badGeometry-either : (n : ℕ) (g : Geometry) → (badGeometry n g 0 ≡ n) ⊎ (badGeometry n g 0 ≡ 0)
+unfolding badGeometry
+badGeometry-either n g =
+    refuse-either _ n _ (refuse-either _ n _ (refuse-either _ n _ (refuse-either _ n _ (refuse-either _ n _ (inr refl)))))
+
+pairs-length : (bytes : List ℕ) → length (pairs bytes) ≡ length bytes / 2
+unfolding pairs
+pairs-length [] = refl
+pairs-length (h ∷ []) = refl
+pairs-length (h ∷ l ∷ bytes) = omega (arith, pairs-length bytes)
+
+module _ (w : State) (s : Sound w) where
+  refused-good : (n : ℕ) → member n answerNumbers ≡ true → Good (refusedBy w n)
+  refused-good n l = record { listed = l; sound = s }
+
+  -- ---- frame 01
+
+  size-good : (fields : List ℕ) → Good (onSize w fields)
+  unfolding onSize
+  size-good fields =
+      let g = sizeOf fields in
+      unless-cases Good _ _ _ _ _ (λ e. refused-good 14 refl)
+      (λ e. unless-cases Good _ _ _ _ _ (λ e. refused-good 14 refl)
+      (λ e. unless-cases Good _ _ _ _ _ (λ e. refused-good 1 refl)
+      (λ e. ⊎-elim (λ q. rw q (refused-good 1 refl))
+      (λ q. let fits = empty-fits g (badGeometry-none 0 g 0 q .0) in
+      rw q (record { listed = refl; sound = record { drawn = omega arith; fits = λ e. fits; places = λ e. absurd (false≢true e) } }))
+      (badGeometry-either 1 g))))
+
+  -- ---- frame 02
+
+  order-good : (fields : List ℕ) → Good (onOrder w fields)
+  unfolding onOrder
+  order-good fields =
+      let p = geometry (w .held) .p in
+      unless-cases Good _ _ _ _ _ (λ e. refused-good 14 refl)
+      (λ e. unless-cases Good _ _ _ _ _ (λ e. refused-good 20 refl)
+      (λ e. unless-cases Good _ _ _ _ _ (λ e. refused-good 5 refl)
+      (λ long. unless-cases Good _ _ _ _ _ (λ e. refused-good 5 refl)
+      (λ e. let places : length (pairs fields) ≡ p = omega (arith, pairs-length fields, eqb-true (length fields) (2 * p) (not-false _ long)) in
+      record { listed = refl; sound = record { drawn = s .drawn; fits = s .fits; places = λ e. places } }))))
+
+  -- ---- frame 03
+
+  -- The state after a counted frame, with what it leaves held.
+  abbrev leaving : Held → State
+  leaving h = record { sized = w .sized; shuffled = w .shuffled; counted = w .counted + 1; perm = w .perm; held = h }
+
+  module _ (room : w .counted < 4096) where
+    leaving-sound : (h : Held) → geometry h ≡ geometry (w .held) → h .position ≤ w .held .position + 4096 → (w .sized ≡ true → FitsOf h)
+        → Sound (leaving h)
+    leaving-sound h same moved fits = record { drawn = omega arith; fits = fits; places = λ e. rw same (s .places e) }
+
+    written-good : w .sized ≡ true → w .shuffled ≡ true → (i a : ℕ) → Good (written (counting w) i a)
+    written-good sized shuffled i a =
+        let h = w .held in
+        let g = geometry h in
+        let fits = s .fits sized in
+        let small = b-bounds g (fits .stands .usable .allowed) .1 in
+        write-cases h (w .perm) i a fits (s .places shuffled) (omega arith)
+        (λ o. Good (record { state = leaving (o .held); answer = printed g (offsetOf g a) (o .held .position) (o .answer) }))
+        (λ n probes l. record { listed = l; sound = leaving-sound h refl (omega arith) (s .fits) })
+        (λ ψ. record { listed = refl; sound = leaving-sound _ refl (omega arith) (s .fits) })
+        (λ ψ place l. record { listed = refl; sound = leaving-sound _ refl (omega arith) (λ e. claimed-fits _ _ _ fits _ ψ _ l) })
+
+  claim-good : (fields : List ℕ) → Good (onClaim w fields)
+  unfolding onClaim
+  claim-good fields =
+      unless-cases Good _ _ _ _ _ (λ e. refused-good 14 refl)
+      (λ e. unless-cases Good _ _ _ _ _ (λ e. refused-good 14 refl)
+      (λ e. let room = leb-false _ _ e in
+      unless-cases Good _ _ _ _ _ (λ e. record { listed = refl; sound = leaving-sound room (w .held) refl (omega arith) (s .fits) })
+      (λ e. let both = and-eq-true-iff _ _ .0 (not-false _ e) in written-good room (both .0) (both .1) _ _)))
+
+  -- ---- any line
+
+  kind-good : (kind : ℕ) (fields : List ℕ) → Good (onKind w kind fields)
+  unfolding onKind
+  kind-good kind fields =
+      choose-cases Good (eqb kind 1) (λ e. size-good fields)
+      (λ e. choose-cases Good (eqb kind 2) (λ e. order-good fields)
+      (λ e. choose-cases Good (eqb kind 3) (λ e. claim-good fields) (λ e. refused-good 14 refl)))
+
+  frame-good : (f : Spelt) → Good (onFrame w f)
+  unfolding onFrame
+  frame-good Neither = refused-good 14 refl
+  frame-good (Bytes []) = refused-good 14 refl
+  frame-good (Bytes (kind ∷ fields)) =
+      choose-cases Good (ltb 513 (1 + length fields)) (λ e. refused-good 14 refl) (λ e. kind-good kind fields)
+
+  step-good : (line : List ℕ) → Good (step w line)
+  unfolding step
+  step-good line = frame-good (decode line)
+
+reached-sound : {w : State} → Reached w → Sound w
+reached-sound begin =
+    record { drawn = omega arith; fits = λ e. absurd (false≢true e); places = λ e. absurd (false≢true e) }
+reached-sound (after w line r) = step-good w (reached-sound r) line .sound
+
+pub listed : (w : State) (line : List ℕ) → Reached w → member (getD (step w line .answer) 0 255) answerNumbers ≡ true
+listed w line r = step-good w (reached-sound r) line .listed
