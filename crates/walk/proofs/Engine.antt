@@ -6,6 +6,7 @@ use mathlib.Core.List.{List}
 use native.Mathlib.Omega.{arith}
 use lib.Dec.{ltb, leb, lit≤}
 use lib.ListN.{length, getD}
+use borrow.Author.Tests.{ltb-true}
 use Rattle.refusals.specs.Numbers.{refuse}
 use Rattle.model.specs.declared.Geometry.{Geometry}
 use Rattle.model.specs.declared.Session.{Session}
@@ -75,22 +76,22 @@ module _ (h : Held) (perm : List ℕ) (i a : ℕ) where
     -- Refused by a listed number, rewritten, or a slice claimed.
     pub write-cases : (P : Outcome WriteResult → Type 0)
         → ((n probes : ℕ) → member n answerNumbers ≡ true → P (idle h (WriteResult.Refused n probes)))
-        → ((ψ : ℕ) → P (rewritten h i ψ j text endless))
-        → ((ψ place : ℕ) → ψ < g .p → P (claimed h i (sliceOf g a) j ψ place text endless))
+        → ((ψ : ℕ) → ψ < g .p → P (rewritten h i ψ j text endless))
+        → ((ψ place : ℕ) → ψ < g .p → place < g .p → P (claimed h i (sliceOf g a) j ψ place text endless))
         → P (writeModel (deviceLength g) h i a text perm endless)
     unfolding writeModel
     write-cases P refused re cl =
         rw writeRefusal-asked
         (unless-cases P _ _ _ _ _ (λ e. refused 11 0 refl)
         (λ e. unless-cases P _ _ _ _ _ (λ e. refused 12 0 refl)
-        (λ e. choose-cases P (ltb ψ₀ (g .p)) (λ l. rewrites ψ₀) (λ l. claims _ refl))))
+        (λ e. choose-cases P (ltb ψ₀ (g .p)) (λ l. rewrites ψ₀ (ltb-true ψ₀ (g .p) l)) (λ l. claims _ refl))))
       where
         ψ₀ : ℕ
         ψ₀ = entryOf (h .maps) g i a
 
-        rewrites : (ψ : ℕ) → P (rewriteOutcome h i ψ j text endless)
-        rewrites ψ =
-            choose-cases P (short (length endless) (h .position) 16) (λ s. absurd (short-true _ _ _ s (endless-enough 16 (lit≤ tt)))) (λ s. re ψ)
+        rewrites : (ψ : ℕ) → ψ < g .p → P (rewriteOutcome h i ψ j text endless)
+        rewrites ψ l =
+            choose-cases P (short (length endless) (h .position) 16) (λ s. absurd (short-true _ _ _ s (endless-enough 16 (lit≤ tt)))) (λ s. re ψ l)
 
         claims : (s : Search) → firstFree (h .owners) (g .p) 0 perm ≡ s → P (claimOutcome h i (sliceOf g a) j text endless s)
         claims (Bad place) e = refused 5 _ refl
@@ -98,4 +99,4 @@ module _ (h : Held) (perm : List ℕ) (i a : ℕ) where
         claims (Free ψ place) e =
             choose-cases P (short (length endless) (h .position) (g .b))
             (λ s. absurd (short-true _ _ _ s (endless-enough (g .b) (b-bounds g (fits .stands .usable .allowed) .1))))
-            (λ s. cl ψ place (firstFree-free _ _ _ _ ψ place e .0))
+            (λ s. let found = firstFree-free _ _ 0 perm ψ place e in cl ψ place (found .0) (omega (arith, found .1)))

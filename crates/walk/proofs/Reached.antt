@@ -1,9 +1,10 @@
 -- The states that a walk reaches, and the answers that its lines get. Assumes nothing.
-use Prim.Native.Nat.{ℕ, zero, suc, _+_, _*_, _/_, _≤_, _<_}
+use Prim.Native.Nat.{ℕ, zero, suc, _+_, _*_, _/_, _^_, _≤_, _<_}
 use mathlib.Core.Path.{_≡_, refl, _∙_}
 use mathlib.Core.Bool.{Bool, true, false, and-eq-true-iff, false≢true}
 use mathlib.Core.Logic.{_⊎_, inl, inr, ⊎-elim}
 use mathlib.Core.List.{List, [], _∷_}
+use native.Mathlib.Nat.{div-lt-iff-lt-mul}
 use native.Mathlib.Omega.{arith}
 use lib.Dec.{ltb, eqb, lit≤}
 use lib.ListN.{length, getD, set, replicate, length-set, length-replicate}
@@ -11,16 +12,16 @@ use borrow.Author.Tests.{leb-false, eqb-true, not-false}
 use Rattle.refusals.specs.Numbers.{refuse}
 use Rattle.model.specs.declared.Geometry.{Geometry}
 use Rattle.model.specs.declared.Session.{Session}
-use Rattle.model.specs.Geometry.{Allowed, badGeometry}
+use Rattle.model.specs.Geometry.{Allowed, badGeometry, deviceLength, blockStart}
 use Rattle.model.specs.Session.{Held, geometry, offsetOf, unmapped}
 use Rattle.model.specs.Opening.{member}
 use Rattle.model.specs.Conditions.{EntryFits}
 use Rattle.model.proofs.Tests.{badGeometry-none}
-use Rattle.places.proofs.Bounds.{b-bounds}
+use Rattle.places.proofs.Bounds.{b-bounds, bytes-small, offsetOf-lt, block-fits}
 use Rattle.walk.specs.Hexadecimal.{Spelt, Bytes, Neither, decode}
 use Rattle.walk.specs.State.{State, empty}
-use Rattle.walk.specs.Frames.{Stepped, refusedBy, sizeOf, onSize, pairs, onOrder, printed, counting, written, onClaim, onKind, onFrame, step}
-use Rattle.walk.specs.Theorems.{Reached, begin, after, answerNumbers}
+use Rattle.walk.specs.Frames.{Stepped, refusedBy, sizeOf, onSize, pairs, onOrder, served, printed, counting, written, onClaim, onKind, onFrame, step}
+use Rattle.walk.specs.Theorems.{Reached, begin, after, answerNumbers, Listed, byte, values}
 use Rattle.walk.proofs.Engine.{choose-cases, unless-cases, Fits, FitsOf, write-cases}
 
 -- ---- the invariant
@@ -33,7 +34,7 @@ record Sound (w : State) : Type 0 where
 
 -- A line that gets a listed answer and leaves a sound state.
 record Good (s : Stepped) : Type 0 where
-  listed : member (getD (s .answer) 0 255) answerNumbers ≡ true
+  listed : Listed (s .answer)
   sound : Sound (s .state)
 
 -- ---- tables
@@ -74,6 +75,22 @@ claimed-fits maps owners s f at ψ owner l =
       entries = getD-set-every (EntryFits (s .geometry)) maps at ψ (f .entries) (inr l);
     }
 
+-- ---- the numbers of a served frame 03
+
+-- The number of a device block fits four bytes.
+block-small : (g : Geometry) → Allowed g → (ψ j : ℕ) → ψ < g .p → j < g .s → blockStart g ψ j / g .b < 256 ^ 4
+unfolding deviceLength
+block-small g ok ψ j l h =
+    let bounds = b-bounds g ok in
+    let below : blockStart g ψ j < 256 ^ 4 * g .b = omega (arith, block-fits g ok ψ j l h, bytes-small g ok (g .p) (omega arith)) in
+    div-lt-iff-lt-mul {k = g .b} (omega arith) .1 below
+
+values-fit : (g : Geometry) → Allowed g → (a ψ probes position : ℕ) → ψ < g .p → probes ≤ g .p → position ≤ 4096 * 4096
+    → Listed (served ψ (blockStart g ψ (offsetOf g a) / g .b) probes position)
+values-fit g ok a ψ probes position l m n =
+    let most = ok .slices-most in
+    values ψ _ probes position (omega arith) (block-small g ok ψ (offsetOf g a) l (offsetOf-lt g ok a)) (omega arith) (omega arith)
+
 -- ---- a geometry and a permutation
 
 -- A chain of refusals by one number gives that number or 0.
@@ -95,7 +112,7 @@ pairs-length (h ∷ l ∷ bytes) = omega (arith, pairs-length bytes)
 
 module _ (w : State) (s : Sound w) where
   refused-good : (n : ℕ) → member n answerNumbers ≡ true → Good (refusedBy w n)
-  refused-good n l = record { listed = l; sound = s }
+  refused-good n l = record { listed = byte n l; sound = s }
 
   -- ---- frame 01
 
@@ -108,7 +125,7 @@ module _ (w : State) (s : Sound w) where
       (λ e. unless-cases Good _ _ _ _ _ (λ e. refused-good 1 refl)
       (λ e. ⊎-elim (λ q. rw q (refused-good 1 refl))
       (λ q. let fits = empty-fits g (badGeometry-none 0 g 0 q .0) in
-      rw q (record { listed = refl; sound = record { drawn = omega arith; fits = λ e. fits; places = λ e. absurd (false≢true e) } }))
+      rw q (record { listed = byte 0 refl; sound = record { drawn = omega arith; fits = λ e. fits; places = λ e. absurd (false≢true e) } }))
       (badGeometry-either 1 g))))
 
   -- ---- frame 02
@@ -122,7 +139,7 @@ module _ (w : State) (s : Sound w) where
       (λ e. unless-cases Good _ _ _ _ _ (λ e. refused-good 5 refl)
       (λ long. unless-cases Good _ _ _ _ _ (λ e. refused-good 5 refl)
       (λ e. let places : length (pairs fields) ≡ p = omega (arith, pairs-length fields, eqb-true (length fields) (2 * p) (not-false _ long)) in
-      record { listed = refl; sound = record { drawn = s .drawn; fits = s .fits; places = λ e. places } }))))
+      record { listed = byte 0 refl; sound = record { drawn = s .drawn; fits = s .fits; places = λ e. places } }))))
 
   -- ---- frame 03
 
@@ -140,12 +157,15 @@ module _ (w : State) (s : Sound w) where
         let h = w .held in
         let g = geometry h in
         let fits = s .fits sized in
-        let small = b-bounds g (fits .stands .usable .allowed) .1 in
+        let ok = fits .stands .usable .allowed in
+        let small = b-bounds g ok .1 in
+        let fitting = values-fit g ok a in
         write-cases h (w .perm) i a fits (s .places shuffled) (omega arith)
         (λ o. Good (record { state = leaving (o .held); answer = printed g (offsetOf g a) (o .held .position) (o .answer) }))
-        (λ n probes l. record { listed = l; sound = leaving-sound h refl (omega arith) (s .fits) })
-        (λ ψ. record { listed = refl; sound = leaving-sound _ refl (omega arith) (s .fits) })
-        (λ ψ place l. record { listed = refl; sound = leaving-sound _ refl (omega arith) (λ e. claimed-fits _ _ _ fits _ ψ _ l) })
+        (λ n probes l. record { listed = byte n l; sound = leaving-sound h refl (omega arith) (s .fits) })
+        (λ ψ l. record { listed = fitting ψ 0 _ l (omega arith) (omega arith); sound = leaving-sound _ refl (omega arith) (s .fits) })
+        (λ ψ place l m.
+        record { listed = fitting ψ _ _ l (omega arith) (omega arith); sound = leaving-sound _ refl (omega arith) (λ e. claimed-fits _ _ _ fits _ ψ _ l) })
 
   claim-good : (fields : List ℕ) → Good (onClaim w fields)
   unfolding onClaim
@@ -153,7 +173,7 @@ module _ (w : State) (s : Sound w) where
       unless-cases Good _ _ _ _ _ (λ e. refused-good 14 refl)
       (λ e. unless-cases Good _ _ _ _ _ (λ e. refused-good 14 refl)
       (λ e. let room = leb-false _ _ e in
-      unless-cases Good _ _ _ _ _ (λ e. record { listed = refl; sound = leaving-sound room (w .held) refl (omega arith) (s .fits) })
+      unless-cases Good _ _ _ _ _ (λ e. record { listed = byte 20 refl; sound = leaving-sound room (w .held) refl (omega arith) (s .fits) })
       (λ e. let both = and-eq-true-iff _ _ .0 (not-false _ e) in written-good room (both .0) (both .1) _ _)))
 
   -- ---- any line
@@ -181,5 +201,5 @@ reached-sound begin =
     record { drawn = omega arith; fits = λ e. absurd (false≢true e); places = λ e. absurd (false≢true e) }
 reached-sound (after w line r) = step-good w (reached-sound r) line .sound
 
-pub listed : (w : State) (line : List ℕ) → Reached w → member (getD (step w line .answer) 0 255) answerNumbers ≡ true
+pub listed : (w : State) (line : List ℕ) → Reached w → Listed (step w line .answer)
 listed w line r = step-good w (reached-sound r) line .listed

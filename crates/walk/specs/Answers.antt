@@ -44,6 +44,7 @@ abbrev pub speltIn : Decoded → (buffer : List ℕ) → Spelt
 speltIn (decoded.Bytes n) buffer = Bytes (take n buffer)
 speltIn decoded.Neither buffer = Neither
 
+-- How many bytes those are.
 abbrev pub countIn : Decoded → ℕ
 countIn (decoded.Bytes n) = n
 countIn decoded.Neither = 0

@@ -1,5 +1,5 @@
 -- One line of the walk program: its frame, its answer and what it leaves (document 01, "The walk program"). Assumes nothing.
-use Prim.Native.Nat.{ℕ, suc, _+_, _*_, _/_}
+use Prim.Native.Nat.{ℕ, _+_, _*_, _/_}
 use mathlib.Core.List.{List, [], _∷_, _++_}
 use mathlib.Core.Bool.{true, false, not, _&&_}
 use lib.Dec.{ltb, leb, eqb}
@@ -11,7 +11,7 @@ use Rattle.model.specs.declared.Change.{Change}
 use Rattle.model.specs.declared.Change.the-variants.{Claimed, Rewritten}
 use Rattle.model.specs.Parts.{choose, part}
 use Rattle.model.specs.Geometry.{badGeometry, blockStart}
-use Rattle.model.specs.Session.{Outcome, geometry, offsetOf, unless}
+use Rattle.model.specs.Session.{geometry, offsetOf, unless}
 use Rattle.model.specs.Opening.{missing}
 use Rattle.model.specs.Write.{WriteResult}
 use Rattle.walk.specs.Hexadecimal.{Spelt, Bytes, Neither, digits, decode}
@@ -32,6 +32,7 @@ accepted w = record { state = w; answer = 0 ∷ [] }
 
 -- ---- frame 01: B, S and P, two bytes each
 
+-- The geometry in the fields of a frame 01.
 abbrev pub sizeOf : List ℕ → Geometry
 sizeOf fields = record { b = number (part 0 2 fields); s = number (part 2 2 fields); p = number (part 4 2 fields) }
 
@@ -43,6 +44,7 @@ sizeRefusal w fields =
     (refuse (ltb 256 (sizeOf fields .p)) 1
     (badGeometry 1 (sizeOf fields) 0)))
 
+-- A frame 01 that is accepted gives the geometry, with empty maps.
 unfoldable pub onSize : State → (fields : List ℕ) → Stepped
 onSize w fields =
     unless (sizeRefusal w fields) (refusedBy w)
@@ -65,6 +67,7 @@ orderRefusal w fields =
     (refuse (missing (geometry (w .held) .p) (pairs fields)) 5
     0)))
 
+-- A frame 02 that is accepted gives the permutation.
 unfoldable pub onOrder : State → (fields : List ℕ) → Stepped
 onOrder w fields =
     unless (orderRefusal w fields) (refusedBy w)
@@ -86,10 +89,11 @@ abbrev pub printed : Geometry → (j position : ℕ) → WriteResult → List �
 printed g j position (WriteResult.Refused n probes) = n ∷ []
 printed g j position (WriteResult.Served change probes) = served (sliceIn change) (blockStart g (sliceIn change) j / g .b) probes position
 
--- A state whose frames 03 are counted, and what the engine holds after a write.
+-- A state with one frame 03 more.
 abbrev pub counting : State → State
 counting w = record { sized = w .sized; shuffled = w .shuffled; counted = w .counted + 1; perm = w .perm; held = w .held }
 
+-- What the engine's write leaves held, and its answer.
 abbrev pub written : State → (i a : ℕ) → Stepped
 written w i a =
     let o = engineWrite w i a in
@@ -122,6 +126,7 @@ onFrame w Neither = refusedBy w 14
 onFrame w (Bytes []) = refusedBy w 14
 onFrame w (Bytes (kind ∷ fields)) = choose (ltb 513 (1 + length fields)) (refusedBy w 14) (onKind w kind fields)
 
+-- A line, by the frame that it spells.
 unfoldable pub step : State → (line : List ℕ) → Stepped
 step w line = onFrame w (decode line)
 

@@ -28,6 +28,7 @@ abbrev pub before : ℕ → Spelt → Spelt
 before b (Bytes bytes) = Bytes (b ∷ bytes)
 before b Neither = Neither
 
+-- What a line spells, two digits for each byte.
 unfoldable pub decode : List ℕ → Spelt
 decode [] = Bytes []
 decode (h ∷ []) = Neither

@@ -1,5 +1,5 @@
 -- Input and output of the walk program: lines, and input that comes in pieces (document 01, "The walk program"). Assumes nothing.
-use Prim.Native.Nat.{ℕ, suc, _+_, _<_}
+use Prim.Native.Nat.{ℕ, _+_, _<_}
 use mathlib.Core.List.{List, [], _∷_, _++_}
 use lib.Dec.{ltb, eqb}
 use lib.ListN.{length, take, drop}
@@ -50,14 +50,17 @@ pub record Fed : Type 0 where
   pub taken : ℕ
   pub output : List ℕ
 
+-- The line ends in the piece, and is answered.
 abbrev pub ended : Reader → (line : List ℕ) → (taken : ℕ) → Fed
 ended r line taken =
     let s = step (r .state) line in
     record { reader = record { state = s .state; line = [] }; taken = taken; output = outputLine s }
 
+-- The line goes on behind the piece.
 abbrev pub goesOn : Reader → (line : List ℕ) → (taken : ℕ) → Fed
 goesOn r line taken = record { reader = record { state = r .state; line = line }; taken = taken; output = [] }
 
+-- A piece of input, up to the end of its first line.
 unfoldable pub feed : Reader → (piece : List ℕ) → Fed
 feed r piece =
     choose (ltb (lineLength piece) (length piece)) (ended r (kept (r .line) (take (lineLength piece) piece)) (lineLength piece + 1))

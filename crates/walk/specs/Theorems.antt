@@ -1,13 +1,13 @@
 -- What is proved of the walk's definitions. Assumes nothing.
-use Prim.Native.Nat.{ℕ, _≤_, _<_}
+use Prim.Native.Nat.{ℕ, _^_, _≤_, _<_}
 use mathlib.Core.Path.{_≡_}
 use mathlib.Core.Bool.{true}
 use mathlib.Core.List.{List, [], _∷_}
-use lib.ListN.{length, getD}
+use lib.ListN.{length}
 use Rattle.model.specs.Opening.{member}
 use Rattle.walk.specs.Hexadecimal.{digits}
 use Rattle.walk.specs.State.{State, start}
-use Rattle.walk.specs.Frames.{step}
+use Rattle.walk.specs.Frames.{served, step}
 use Rattle.walk.specs.Lines.{walk, Reader, feed, Reads}
 
 -- ---- the document's example
@@ -48,10 +48,16 @@ pub data Reached : State → Type 0 where
 abbrev pub answerNumbers : List ℕ
 answerNumbers = 0 ∷ 1 ∷ 5 ∷ 11 ∷ 12 ∷ 14 ∷ 20 ∷ 22 ∷ []
 
+-- An answer of the program: one of these bytes alone, or a served frame 03 whose numbers fit the bytes that they are given.
+pub data Listed : (answer : List ℕ) → Type 0 where
+  byte : (n : ℕ) → member n answerNumbers ≡ true → Listed (n ∷ [])
+  values : (slice block probes position : ℕ) → slice < 256 ^ 2 → block < 256 ^ 4 → probes < 256 ^ 2 → position < 256 ^ 4
+      → Listed (served slice block probes position)
+
 pub record WalkLaws : Type 0 where
   pub example : answers start exampleLines ≡ exampleAnswers
   -- No line gets any other answer; in particular the tape never ends (21).
-  pub listed : (w : State) (line : List ℕ) → Reached w → member (getD (step w line .answer) 0 255) answerNumbers ≡ true
+  pub listed : (w : State) (line : List ℕ) → Reached w → Listed (step w line .answer)
   -- Of a piece of input at least one byte is taken, and no more than it has.
   pub takes : (r : Reader) (piece : List ℕ) → 0 < length piece → (0 < feed r piece .taken) × (feed r piece .taken ≤ length piece)
   -- Every input can be read, so that what follows is not said of nothing.
