@@ -1,11 +1,11 @@
--- Laws of part, overlay and joined. Assumes nothing.
+-- Laws of part, overlay and joined, and of a list that repeats one number. Assumes nothing.
 use Prim.Native.Nat.{ℕ, zero, suc, _+_, _*_, _≤_, _<_}
 use mathlib.Core.Path.{_≡_, refl, sym, ap, ap₂, _∙_}
 use mathlib.Core.List.{List, [], _∷_, _++_}
 use mathlib.Core.Logic.{⊎-elim}
 use native.Mathlib.Omega.{arith}
 use native.Mathlib.Nat.{eq-or-lt-of-le, le-of-suc-le-suc, le-of-eq, zero-add, zero-mul, suc-add, suc-mul, mul-le-mul-right, add-zero}
-use lib.ListN.{length, take, drop, getD, length-append, length-take, length-drop}
+use lib.ListN.{length, take, drop, getD, replicate, length-append, length-take, length-drop}
 use lib.Seq.{take-append-le, drop-append-le, drop-append-add, drop-drop, drop-at, take-all}
 use Rattle.model.specs.Parts.{part, overlay, joined}
 
@@ -47,6 +47,13 @@ module _ {ℓ} {A : Type ℓ} where
       ap₂ (λ (w : A) (l : List A). w ∷ l) (h zero (omega arith) (omega arith))
       (part-agree z s t zero n (omega arith) (λ p l m. h (suc p) (omega arith) (omega arith)))
   part-agree z (x ∷ s) (y ∷ t) (suc a) n e h = part-agree z s t a n (omega arith) (λ p l m. h (suc p) (omega arith) (omega arith))
+
+-- ---- one number repeated
+
+pub take-replicate : (n m x : ℕ) → n ≤ m → take n (replicate m x) ≡ replicate n x
+take-replicate zero m x l = refl
+take-replicate (suc n) zero x l = absurd (omega arith)
+take-replicate (suc n) (suc m) x l = ap (λ (r : List ℕ). x ∷ r) (take-replicate n m x (omega arith))
 
 -- ---- overlay, by parts
 

@@ -8,8 +8,7 @@ use native.Mathlib.Numerals.{add-one}
 use native.Mathlib.Omega.{arith}
 use borrow.Author.Tests.{eq-eqb, ne-eqb}
 use lib.Dec.{eqb}
-use lib.ListN.{length, take, drop, replicate, length-replicate}
-use lib.Seq.{length-take-le}
+use lib.ListN.{length, take, drop}
 use Rattle.gcm.specs.Gcm.{Opened, Text, WrongTag, gcmTag, gcmText, gcmOpen, same, textIf}
 use Rattle.gcm.specs.Call.{openedOver}
 use Rattle.gcm.proofs.Same.{open-test}
@@ -41,10 +40,6 @@ part-header g ok device i l e {s} q x n h =
     part-part device s (length device - s) x n (omega (arith, header-fits g ok i l))
     ∙ ap (λ (m : ℕ). part (m + x) n device) q
     ∙ sym (part-part device (headerStart g i) (g .b * (1 + mapBlocks g)) x n h)
-
--- The first elements of a list that repeats one.
-pub take-replicate-length : (n k z : ℕ) → n ≤ k → length (take n (replicate k z)) ≡ n
-take-replicate-length n k z l = length-take-le n (replicate k z) (rw length-replicate l)
 
 -- ---- opening
 

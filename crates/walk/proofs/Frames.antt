@@ -1,6 +1,6 @@
 -- What a frame leads to, by the tests that the code makes. Assumes nothing.
-use Prim.Native.Nat.{ℕ, zero, suc, _+_, _-_, _*_, _≤_, _<_}
-use mathlib.Core.Path.{_≡_, refl, ap}
+use Prim.Native.Nat.{ℕ, suc, _+_, _-_, _*_, _≤_, _<_}
+use mathlib.Core.Path.{_≡_, refl}
 use mathlib.Core.Bool.{true, false, not, _&&_}
 use mathlib.Core.List.{List, [], _∷_}
 use native.Mathlib.Omega.{arith}
@@ -16,6 +16,7 @@ use Rattle.model.specs.Parts.{part}
 use Rattle.model.specs.Geometry.{badGeometry}
 use Rattle.model.specs.Session.{geometry, unmapped}
 use Rattle.model.specs.Opening.{missing}
+use Rattle.model.proofs.Parts.{take-replicate}
 use Rattle.reading.proofs.Order.{unless-refused}
 use Rattle.walk.specs.declared.Walk.{Walk}
 use Rattle.walk.specs.declared.WalkAnswer.{WalkAnswer}
@@ -63,11 +64,6 @@ module _ (w : State) (fields : List ℕ) where
           → onSize w fields ≡ accepted (record { sized = true; shuffled = false; counted = w .counted; perm = []; held = empty g })
       unfolding onSize refuse
       onSize-accepted h e = rw (read, six, first, le-ltb 256 (sizeOf fields .p) (rw read at h), rw read at e)
-
-take-replicate : (n m x : ℕ) → n ≤ m → take n (replicate m x) ≡ replicate n x
-take-replicate zero m x l = refl
-take-replicate (suc n) zero x l = absurd (omega arith)
-take-replicate (suc n) (suc m) x l = ap (λ (r : List ℕ). x ∷ r) (take-replicate n m x (omega arith))
 
 -- The state of memory that is cleared, long enough for the geometry.
 pub stateOf-empty : (g : Geometry) (counted : ℕ) (maps owners perm : List ℕ) (m n : ℕ) → maps ≡ replicate m unmapped → owners ≡ replicate n 0

@@ -5,13 +5,13 @@ use Prim.Native.Nat.{ℕ, _+_, _-_, _*_, _≤_}
 use native.Mathlib.Omega.{arith}
 use borrow.Author.Needs.{needs}
 use lib.ListN.{length, take, drop, replicate, length-append}
-use lib.Seq.{take-at}
+use lib.Seq.{length-take-le, take-at}
 use Rattle.ctr.specs.CounterMode.{ctr}
 use Rattle.model.specs.Geometry.{numberAt}
 use Rattle.model.specs.Opening.{load}
 use Rattle.model.proofs.Parts.{part-length}
 use Rattle.places.proofs.Bounds.{b-bounds, mapBlocks-small}
-use Rattle.opening.proofs.Headers.{part-lent, take-replicate-length}
+use Rattle.opening.proofs.Headers.{part-lent}
 use Rattle.opening.proofs.Loads.{settled-by}
 use Rattle.opening.proofs.Entries.{mapBlock-fits}
 use Rattle.opening.proofs.load_block.Statement.{statement}
@@ -23,7 +23,7 @@ inside s = omega (arith, mapBlock-fits (s .args .g) (s .pre .0) (s .args .t) (s 
 
 -- The local's first bytes, as many as the block has entries.
 local-length : (s : tie.Start) → length (take (s .args .g .b - 16) (replicate {A = ℕ} 4096 0)) ≡ s .args .g .b - 16
-local-length s = take-replicate-length (s .args .g .b - 16) 4096 0 (omega (arith, b-bounds (s .args .g) (s .pre .0)))
+local-length s = length-take-le (s .args .g .b - 16) (replicate 4096 0) (omega (arith, b-bounds (s .args .g) (s .pre .0)))
 
 add-from : tie.Need-add-from
 add-from c = let s = c .before .before .before .before .before in omega (arith, s .pre .6, mapBlocks-small (s .args .g) (s .pre .0))
