@@ -1,5 +1,5 @@
 -- Laws of part, overlay and joined, and of a list that repeats one number. Assumes nothing.
-use Prim.Native.Nat.{ℕ, zero, suc, _+_, _*_, _≤_, _<_}
+use Prim.Native.Nat.{ℕ, zero, suc, _+_, _-_, _*_, _≤_, _<_}
 use mathlib.Core.Path.{_≡_, refl, sym, ap, ap₂, _∙_}
 use mathlib.Core.List.{List, [], _∷_, _++_}
 use mathlib.Core.Logic.{⊎-elim}
@@ -14,6 +14,13 @@ use Rattle.model.specs.Parts.{part, overlay, joined}
 module _ {ℓ} {A : Type ℓ} where
   pub part-length : (s : List A) (a n : ℕ) → a + n ≤ length s → length (part a n s) ≡ n
   part-length s a n h = simp (length-take, length-drop) (omega arith)
+
+  -- A part that is lent from a place to that place and n more.
+  pub part-lent : (s : List A) {at : ℕ} (from n : ℕ) → from ≡ at → part from (from + n - from) s ≡ part at n s
+  part-lent s from n e = let q : from + n - from ≡ n = omega arith in rw (q, e)
+
+  pub part-lent-length : (s : List A) (a n : ℕ) → a + n ≤ length s → length (part a (a + n - a) s) ≡ n
+  part-lent-length s a n h = ap length (part-lent s a n refl) ∙ part-length s a n h
 
   -- A part that ends within the first of two lists.
   pub part-left : (p q : List A) (a n : ℕ) → a + n ≤ length p → part a n (p ++ q) ≡ part a n p

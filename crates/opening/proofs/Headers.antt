@@ -16,22 +16,16 @@ use Rattle.model.specs.declared.Geometry.{Geometry}
 use Rattle.model.specs.Parts.{choose, part}
 use Rattle.model.specs.Geometry.{Allowed, mapBlocks, deviceLength, numberAt, headerStart, headerOf}
 use Rattle.model.specs.Opening.{Cell, NoCell, openCell, openHeader, orNext, firstCell, Chain, Broken, link}
-use Rattle.model.proofs.Parts.{part-part}
+use Rattle.model.proofs.Parts.{part-lent, part-part}
 use Rattle.places.proofs.Bounds.{b-bounds, header-fits}
 use Rattle.opening.specs.declared.Found.the-variants as found
 use Rattle.opening.specs.Steps.{isText, CellFound, HeaderOpened}
 
 -- ---- parts
 
--- A part as the code lends it, from a to b.
-pub part-lent : (s : List ℕ) (a n : ℕ) {b : ℕ} → b ≡ a + n → take (b - a) (drop a s) ≡ part a n s
-part-lent s a n {b} e =
-    let k : b - a ≡ n = omega arith in
-    ap (λ (m : ℕ). take m (drop a s)) k
-
--- The same within a longer part.
-pub part-inner : (s : List ℕ) (at w x n a : ℕ) {b : ℕ} → a ≡ at + x → b ≡ a + n → x + n ≤ w → take (b - a) (drop a s) ≡ part x n (part at w s)
-part-inner s at w x n a e q h = part-lent s a n q ∙ ap (λ (m : ℕ). part m n s) e ∙ sym (part-part s at w x n h)
+-- A part that is lent, within a longer part.
+pub part-inner : (s : List ℕ) (at w x n from : ℕ) → from ≡ at + x → x + n ≤ w → part from (from + n - from) s ≡ part x n (part at w s)
+part-inner s at w x n from e h = part-lent s from n e ∙ sym (part-part s at w x n h)
 
 -- A header is read alike where more of the device follows it.
 pub part-header : (g : Geometry) → Allowed g → (device : List ℕ) (i : ℕ) → i ≤ 14 → length device ≡ deviceLength g → {s : ℕ} → s ≡ headerStart g i

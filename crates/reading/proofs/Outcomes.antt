@@ -1,5 +1,5 @@
 -- What a read and a find come to, by the tests that their code makes. Assumes nothing.
-use Prim.Native.Nat.{ℕ, _+_, _-_, _≤_, _<_}
+use Prim.Native.Nat.{ℕ, _≤_, _<_}
 use mathlib.Core.Path.{_≡_}
 use mathlib.Core.List.{List, []}
 use native.Mathlib.Omega.{arith}
@@ -15,10 +15,6 @@ use Rattle.model.specs.Read.{deciphered, blockOf, readRefusal, Filled, Refused,
 use Rattle.model.proofs.Requests.{Stands, standing-none, Asked, asked-none}
 use Rattle.places.proofs.Bounds.{slot-lt, sliceOf-lt}
 use Rattle.reading.proofs.Order.{unless-refused}
-
--- A part that is lent from a place to that place and n more.
-pub part-lent {ℓ} : {A : Type ℓ} (s : List A) {at : ℕ} (from n : ℕ) → from ≡ at → part from (from + n - from) s ≡ part at n s
-part-lent s from n e = let q : from + n - from ≡ n = omega arith in rw (q, e)
 
 -- ---- requests that are not refused
 

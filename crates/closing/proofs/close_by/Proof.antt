@@ -10,9 +10,7 @@ use Rattle.model.specs.Parts.{overlay, patched}
 use Rattle.model.specs.Geometry.{mapBlocks, mapStart}
 use Rattle.model.specs.Session.{held, keyOf, unmapped}
 use Rattle.model.specs.Close.{mapBytes, mapPatches}
-use Rattle.model.proofs.Parts.{overlay-length}
-use Rattle.reading.proofs.Outcomes.{part-lent}
-use Rattle.closing.proofs.Pieces.{part-lent-length}
+use Rattle.model.proofs.Parts.{part-lent, part-lent-length, overlay-length}
 use Rattle.closing.proofs.MapBlocks.{mapPatches-turn}
 use Rattle.closing.proofs.Outcomes.{Closable, closeNeed-small, closeNeed-covers, closeRefusal-none, close-refused, close-served}
 use Rattle.closing.proofs.close_by.Statement.{statement}

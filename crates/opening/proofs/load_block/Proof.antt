@@ -7,11 +7,11 @@ use borrow.Author.Needs.{needs}
 use lib.ListN.{length, take, drop, replicate, length-append}
 use lib.Seq.{length-take-le, take-at}
 use Rattle.ctr.specs.CounterMode.{ctr}
+use Rattle.model.specs.Parts.{part}
 use Rattle.model.specs.Geometry.{numberAt}
 use Rattle.model.specs.Opening.{load}
-use Rattle.model.proofs.Parts.{part-length}
+use Rattle.model.proofs.Parts.{part-length, part-lent, part-lent-length}
 use Rattle.places.proofs.Bounds.{b-bounds, mapBlocks-small}
-use Rattle.opening.proofs.Headers.{part-lent}
 use Rattle.opening.proofs.Loads.{settled-by}
 use Rattle.opening.proofs.Entries.{mapBlock-fits}
 use Rattle.opening.proofs.load_block.Statement.{statement}
@@ -61,11 +61,11 @@ ctr-into-requires c κs =
     let b = b-bounds (a .g) (s .pre .0) in
     let from = a .g .b * (1 + a .t) in
     let at = from + 16 in
-    let end : from + a .g .b ≡ at + (a .g .b - 16) = omega (arith, b) in
-    let text = ap length (part-lent header at (a .g .b - 16) end) ∙ part-length header at (a .g .b - 16) (omega (arith, inside s, b)) in (
+    let end : from + a .g .b - at ≡ a .g .b - 16 = omega (arith, b) in
+    let text = ap (λ (n : ℕ). length (part at n header)) end ∙ part-length header at (a .g .b - 16) (omega (arith, inside s, b)) in (
       s .pre .1,
       (
-        ap length (part-lent header from 16 refl) ∙ part-length header from 16 (omega (arith, inside s, b)),
+        part-lent-length header from 16 (omega (arith, inside s, b)),
         (local-length s ∙ sym text, omega (arith, text, b)),
       ),
     )
@@ -106,11 +106,11 @@ returns c =
     let a = s .args in
     let header = a .header .now in
     let from = a .g .b * (1 + a .t) in
-    let end : from + a .g .b ≡ from + 16 + (a .g .b - 16) = omega (arith, b-bounds (a .g) (s .pre .0)) in
+    let end : from + a .g .b - (from + 16) ≡ a .g .b - 16 = omega (arith, b-bounds (a .g) (s .pre .0)) in
     let entries =
     deciphered text
     ∙ text .ctr-into .ensures
-    ∙ ap₂ (ctr (a .key .now)) (part-lent header from 16 refl) (part-lent header (from + 16) (a .g .b - 16) end) in
+    ∙ ap₂ (ctr (a .key .now)) (part-lent header from 16 refl) (ap (λ (n : ℕ). part (from + 16) n header) end) in
     settled-by
     (ap (λ (t : List ℕ). load (length (a .owners .now)) (λ (i : ℕ). numberAt (4 * (i - a .n)) t) (a .count) (a .n) (a .maps .now) (a .owners .now)) entries)
     _ _ _ (loading .load-entries .ensures)

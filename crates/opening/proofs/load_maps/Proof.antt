@@ -10,11 +10,10 @@ use lib.ListN.{length, take, drop}
 use Rattle.refusals.specs.Numbers.{answerNumber}
 use Rattle.model.specs.Geometry.{mapBlocks, headerOf}
 use Rattle.model.specs.Opening.{storedEntry, mapEntries, load}
-use Rattle.model.proofs.Parts.{part-length}
+use Rattle.model.proofs.Parts.{part-length, part-lent, part-lent-length}
 use Rattle.tables.specs.Settled.{Settled}
 use Rattle.places.proofs.Bounds.{header-fits}
 use Rattle.opening.proofs.Refusals.{answer-refused, answer-served}
-use Rattle.opening.proofs.Headers.{part-lent}
 use Rattle.opening.proofs.Loads.{settled-tables, settled-spoilt, tables-settled, spoilt-settled, settled-by}
 use Rattle.opening.proofs.Loads.{andThen, andThen-tables, andThen-spoilt, load-done, load-run, load-cong}
 use Rattle.opening.proofs.Entries.{mapEntries-volume}
@@ -117,7 +116,7 @@ load-volume-requires c κs =
     let taken = tested .loop-test .taken in
     let long = part-length device at (length device - at) (omega (arith, begins placed)) in (
       s .pre .0,
-      ap length (part-lent keys (32 * l .v) 32 refl) ∙ part-length keys (32 * l .v) 32 (omega (arith, taken, s .pre .4, s .pre .5)),
+      part-lent-length keys (32 * l .v) 32 (omega (arith, taken, s .pre .4, s .pre .5)),
       l .inv .1 ∙ s .pre .2,
       l .inv .2 ∙ s .pre .3,
       omega (arith, taken, s .pre .4),

@@ -16,9 +16,9 @@ returns c =
     let start = 16 + 60 * a .i in
     let o = opened .open-into .ensures in
     open-parts (a .key .now) (a .i ∷ []) (a .vmk .now)
-    (part-inner device start 60 0 12 start (omega arith) refl (omega arith))
-    (part-inner device start 60 12 32 (start + 12) refl refl (omega arith))
-    (part-inner device start 60 44 16 (start + 12 + 32) (omega arith) refl (omega arith))
+    (part-inner device start 60 0 12 start (omega arith) (omega arith))
+    (part-inner device start 60 12 32 (start + 12) refl (omega arith))
+    (part-inner device start 60 44 16 (start + 12 + 32) (omega arith) (omega arith))
     (o .0) (o .1)
 
 pub open-cell-spec : {M : Type 1} → statement M

@@ -5,8 +5,9 @@ use native.Mathlib.Omega.{arith}
 use borrow.Author.Needs.{needs}
 use lib.ListN.{length, replicate}
 use Rattle.ctr.specs.CounterMode.{ctr}
+use Rattle.model.proofs.Parts.{part-lent}
 use Rattle.places.proofs.Bounds.{iv-fits, block-fits}
-use Rattle.reading.proofs.Outcomes.{part-lent, deciphered-mapped, deciphered-unmapped}
+use Rattle.reading.proofs.Outcomes.{deciphered-mapped, deciphered-unmapped}
 use Rattle.reading.proofs.decipher.Statement.{statement}
 use Rattle.reading.proofs.decipher.Tie as tie
 

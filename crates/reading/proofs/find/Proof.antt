@@ -8,9 +8,10 @@ use Rattle.refusals.specs.Numbers.{answerNumber}
 use Rattle.model.specs.Geometry.{blockStart}
 use Rattle.model.specs.Session.{offsetOf}
 use Rattle.model.specs.Read.{readRefusal}
+use Rattle.model.proofs.Parts.{part-lent}
 use Rattle.places.proofs.Bounds.{offsetOf-lt, block-fits}
 use Rattle.reading.proofs.Order.{answer-positive}
-use Rattle.reading.proofs.Outcomes.{part-lent, asked-slot, Ready, readRefusal-none, find-refused, find-mapped, find-unmapped}
+use Rattle.reading.proofs.Outcomes.{asked-slot, Ready, readRefusal-none, find-refused, find-mapped, find-unmapped}
 use Rattle.reading.proofs.find.Statement.{statement}
 use Rattle.reading.proofs.find.Tie as tie
 

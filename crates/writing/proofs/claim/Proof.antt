@@ -1,6 +1,6 @@
 -- `writing::claim` meets its contract. The loop's invariant: n data blocks stand behind the IV block. Assumes nothing.
 use Prim.Native.Nat.{ℕ, _+_, _-_, _*_, _≤_}
-use mathlib.Core.Path.{_≡_, refl, sym, ap, ap₂, _∙_}
+use mathlib.Core.Path.{_≡_, sym, ap, ap₂, _∙_}
 use mathlib.Core.Logic.{⊎-elim}
 use mathlib.Core.List.{List, _++_}
 use native.Mathlib.Omega.{arith}
@@ -9,9 +9,8 @@ use borrow.Author.Needs.{needs}
 use Rattle.model.specs.Parts.{part, overlay, joined}
 use Rattle.model.specs.Geometry.{deviceLength}
 use Rattle.model.specs.Write.{claimedBytes}
-use Rattle.model.proofs.Parts.{part-length, overlay-length}
+use Rattle.model.proofs.Parts.{part-lent-length, overlay-length}
 use Rattle.places.proofs.Bounds.{b-bounds, deviceLength-small, iv-within}
-use Rattle.reading.proofs.Outcomes.{part-lent}
 use Rattle.places.proofs.Parts.{overlay-append, overlay-none, overlay-joined}
 use Rattle.writing.proofs.Claims.{claimedBlock, claimedBlock-length, claimedBlock-text, claimedBlock-zeros, claimedBlock-fits}
 use Rattle.writing.proofs.claim.Statement.{statement}
@@ -58,7 +57,7 @@ module _ (c : tie.In-loop Inv-loop μ-loop) where
   iv-end = omega (arith, iv-within (s .args .g) (s .pre .0) n (c .loop-test .taken), s .pre .4)
 
   iv-long : length (part (16 * n) (16 * n + 16 - 16 * n) (s .args .ivs .now)) ≡ 16
-  iv-long = ap length (part-lent (s .args .ivs .now) (16 * n) 16 refl) ∙ part-length (s .args .ivs .now) (16 * n) 16 iv-end
+  iv-long = part-lent-length (s .args .ivs .now) (16 * n) 16 iv-end
 
   block-end : c .before .loop .at + s .args .g .b ≤ length (c .before .loop .device)
   block-end =

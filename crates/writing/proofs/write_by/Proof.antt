@@ -11,9 +11,9 @@ use Rattle.model.specs.Parts.{part, patched}
 use Rattle.model.specs.Session.{Held, held, keyOf, slot, sliceOf}
 use Rattle.model.specs.Write.{Served}
 use Rattle.model.specs.Answers.{writeResult}
-use Rattle.model.proofs.Parts.{part-length}
+use Rattle.model.proofs.Parts.{part-length, part-lent, part-lent-length}
 use Rattle.places.proofs.Bounds.{offsetOf-lt}
-use Rattle.reading.proofs.Outcomes.{part-lent, asked-slot}
+use Rattle.reading.proofs.Outcomes.{asked-slot}
 use Rattle.deciding.specs.declared.Decision.{Decision}
 use Rattle.deciding.specs.declared.Decision.the-variants.{Refused, Rewrite, Claim}
 use Rattle.deciding.specs.Decided.{Decided}
@@ -62,7 +62,7 @@ module _ (c : tie.After-decide) where
     key-lent = part-lent (start .args .session .keys) (32 * start .args .volume) 32 refl
 
     key-long : let a = start .args in length (part (32 * a .volume) (32 * a .volume + 32 - 32 * a .volume) (a .session .keys)) ≡ 32
-    key-long = ap length key-lent ∙ part-length (start .args .session .keys) (32 * start .args .volume) 32 key-end
+    key-long = part-lent-length (start .args .session .keys) (32 * start .args .volume) 32 key-end
 
 -- ---- a rewrite
 
