@@ -14,10 +14,9 @@ use Rattle.model.specs.Parts.{choose, part, overlay, joined, patched}
 use Rattle.model.specs.Geometry.{Allowed, perBlock, mapBlocks, mapStart, fourBytes}
 use Rattle.model.specs.Session.{Held, geometry, keyOf, entry, unmapped}
 use Rattle.model.specs.Close.{mapText, mapBlock, mapBytes, mapPatches}
-use Rattle.model.proofs.Parts.{part-length, joined-length}
+use Rattle.model.proofs.Parts.{part-length, patched-++, joined-length}
 use Rattle.places.proofs.Bounds.{b-bounds, entries-fill}
 use Rattle.places.proofs.Parts.{overlay-joined, overlay-all}
-use Rattle.closing.proofs.Pieces.{patched-last}
 
 -- ---- the entries of a map block
 
@@ -67,6 +66,6 @@ pub mapPatches-turn : (h : Held) (tape device : List ℕ) (v : ℕ)
     → overlay (patched (mapPatches h tape v) device) (mapStart (geometry h) v)
     (mapBytes (h .maps) (geometry h) (keyOf (h .session) v) tape (h .position + 16 * (mapBlocks (geometry h) * v)) v)
     ≡ patched (mapPatches h tape (v + 1)) device
-unfolding mapPatches
+unfolding mapPatches patched
 mapPatches-turn h tape device v =
-    sym (patched-last (mapPatches h tape v) _ device) ∙ ap (λ (n : ℕ). patched (mapPatches h tape n) device) (sym (add-one v))
+    sym (patched-++ (mapPatches h tape v) _ device) ∙ ap (λ (n : ℕ). patched (mapPatches h tape n) device) (sym (add-one v))

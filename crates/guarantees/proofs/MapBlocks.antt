@@ -23,8 +23,8 @@ use Rattle.model.specs.Close.{mapText, mapBlock, mapBytes, mapPatches}
 use Rattle.model.specs.Conditions.{EntryFits, Enough}
 use Rattle.guarantees.specs.Runs.{Range, mapRanges}
 use Rattle.model.proofs.Parts.{part-length, part-left, part-right, part-part, overlay-before, overlay-within, joined-length, joined-part}
-use Rattle.model.proofs.Parts.{joined-piece}
-use Rattle.guarantees.proofs.Patches.{rangesOf, ranges-++, patched-length, patched-++}
+use Rattle.model.proofs.Parts.{joined-piece, patched-++}
+use Rattle.guarantees.proofs.Patches.{rangesOf, ranges-++, patched-length}
 use Rattle.guarantees.proofs.Places.{Apart, overlay-apart}
 
 -- ---- one map block

@@ -23,11 +23,6 @@ unfolding patched
 patched-length [] s = refl
 patched-length (x ∷ ps) s = patched-length ps (overlay s (x .at) (x .bytes)) ∙ overlay-length s (x .at) (x .bytes)
 
-pub patched-++ : (ps qs : List Patch) (s : List ℕ) → patched (ps ++ qs) s ≡ patched qs (patched ps s)
-unfolding patched
-patched-++ [] qs s = refl
-patched-++ (x ∷ ps) qs s = patched-++ ps qs (overlay s (x .at) (x .bytes))
-
 -- What no patch covers is kept.
 pub patched-kept : (ps : List Patch) (s : List ℕ) (p : ℕ) → (Within p (rangesOf ps) → ⊥) → getD (patched ps s) p 0 ≡ getD s p 0
 unfolding patched Within

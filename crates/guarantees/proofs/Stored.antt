@@ -14,8 +14,8 @@ use Rattle.model.specs.Close.{CloseResult}
 use Rattle.guarantees.specs.Runs.{State, Call, Reading, Finding, Writing, Closing, Event, Writes, Closes, asEvent, outcome, next, final}
 use Rattle.guarantees.specs.Runs.{events, stores, Range, places, allPlaces, Within}
 use Rattle.guarantees.specs.Arrays.{heldEntry, heldAfter, heldAfterAll}
-use Rattle.model.proofs.Parts.{part-length}
-use Rattle.guarantees.proofs.Patches.{rangesOf, ranges-++, patched-++, patched-kept}
+use Rattle.model.proofs.Parts.{part-length, patched-++}
+use Rattle.guarantees.proofs.Patches.{rangesOf, ranges-++, patched-kept}
 use Rattle.guarantees.proofs.Blocks.{claimed-length}
 use Rattle.guarantees.proofs.Cases.{write-stores, close-cases}
 use Rattle.guarantees.proofs.MapBlocks.{mapPatches-ranges}

@@ -1,4 +1,4 @@
--- Laws of part, overlay and joined, and of a list that repeats one number. Assumes nothing.
+-- Laws of part, overlay, patched and joined, and of a list that repeats one number. Assumes nothing.
 use Prim.Native.Nat.{ℕ, zero, suc, _+_, _-_, _*_, _≤_, _<_}
 use mathlib.Core.Path.{_≡_, refl, sym, ap, ap₂, _∙_}
 use mathlib.Core.List.{List, [], _∷_, _++_}
@@ -7,7 +7,7 @@ use native.Mathlib.Omega.{arith}
 use native.Mathlib.Nat.{eq-or-lt-of-le, le-of-suc-le-suc, le-of-eq, zero-add, zero-mul, suc-add, suc-mul, mul-le-mul-right, add-zero}
 use lib.ListN.{length, take, drop, getD, replicate, length-append, length-take, length-drop}
 use lib.Seq.{take-append-le, drop-append-le, drop-append-add, drop-drop, drop-at, take-all}
-use Rattle.model.specs.Parts.{part, overlay, joined}
+use Rattle.model.specs.Parts.{part, overlay, Patch, patched, joined}
 
 -- ---- part
 
@@ -163,6 +163,13 @@ module _ {ℓ} {A : Type ℓ} (z : A) where
   overlay-getD-over (x ∷ s) (y ∷ t) zero (w ∷ d) (suc p) e h k = overlay-getD-over s t zero d p (omega arith) (omega arith) (omega arith)
   overlay-getD-over (x ∷ s) (y ∷ t) (suc at) d zero e h k = absurd (omega arith)
   overlay-getD-over (x ∷ s) (y ∷ t) (suc at) d (suc p) e h k = overlay-getD-over s t at d p (omega arith) (omega arith) (omega arith)
+
+-- ---- patches
+
+pub patched-++ : (ps qs : List Patch) (s : List ℕ) → patched (ps ++ qs) s ≡ patched qs (patched ps s)
+unfolding patched
+patched-++ [] qs s = refl
+patched-++ (x ∷ ps) qs s = patched-++ ps qs (overlay s (x .at) (x .bytes))
 
 -- ---- joined, where each piece has w elements
 
