@@ -15,7 +15,7 @@ use Rattle.model.specs.Geometry.{Allowed, perBlock, mapBlocks, mapStart, fourBy
 use Rattle.model.specs.Session.{Held, geometry, keyOf, entry, unmapped}
 use Rattle.model.specs.Close.{mapText, mapBlock, mapBytes, mapPatches}
 use Rattle.model.proofs.Parts.{part-length, patched-++, joined-length}
-use Rattle.places.proofs.Bounds.{b-bounds, entries-fill}
+use Rattle.model.proofs.Bounds.{b-bounds, entries-fill}
 use Rattle.places.proofs.Parts.{overlay-joined, overlay-all}
 
 -- ---- the entries of a map block

@@ -20,7 +20,7 @@ use Rattle.model.specs.Close.{CloseResult, anyBad, closeNeed, closeRefusal, clo
 use Rattle.model.specs.Answers.{closeResult, Leaves}
 use Rattle.model.proofs.Tests.{refuse-none}
 use Rattle.model.proofs.Requests.{Stands, standing-none, standing-stands, short-false}
-use Rattle.places.proofs.Bounds.{mapBlocks-small}
+use Rattle.model.proofs.Bounds.{mapBlocks-small}
 use Rattle.reading.proofs.Order.{standing-first, unless-refused}
 
 -- ---- the tape bytes that a close needs

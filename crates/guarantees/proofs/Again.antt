@@ -22,11 +22,12 @@ use Rattle.guarantees.specs.Rules.{Names}
 use Rattle.guarantees.specs.Arrays.{Arrays}
 use Rattle.guarantees.specs.Points.{Handed, Lent, opens, begin, Reopens}
 use Rattle.model.proofs.Parts.{part-part}
+use Rattle.model.proofs.Bounds.{b-bounds, sliceOf-lt}
 use Rattle.guarantees.proofs.Reflects.{below}
 use Rattle.guarantees.proofs.Patches.{patched-length}
-use Rattle.guarantees.proofs.Places.{Apart, block-wide, slice-first}
+use Rattle.guarantees.proofs.Places.{Apart, slice-first}
 use Rattle.guarantees.proofs.Sound.{tableEntry}
-use Rattle.guarantees.proofs.Blocks.{deciphered-same, sliceOf-lt}
+use Rattle.guarantees.proofs.Blocks.{deciphered-same}
 use Rattle.guarantees.proofs.Cases.{Stands, close-cases}
 use Rattle.guarantees.proofs.MapBlocks.{mapPatches-elsewhere, storedEntry-back}
 use Rattle.guarantees.proofs.Tables.{load-served}
@@ -59,7 +60,7 @@ module _ (s : List ℕ) (x : Handed) (l : Lent) (k : ℕ) (sv : Served s x l k) 
     low = omega (arith, served-low s x l k sv)
 
     wide : 1024 ≤ g .b
-    wide = block-wide g ok
+    wide = b-bounds g ok .0
 
     elsewhere : (a w : ℕ) → ((v : ℕ) → v < k + 1 → Apart a w (mapStart g v) (g .b * mapBlocks g)) → part a w s′ ≡ part a w device
     elsewhere = mapPatches-elsewhere h tape ok (k + 1) enough device (op .stands .long) low (k + 1) (omega arith)
@@ -161,7 +162,7 @@ module _ (s : List ℕ) (x : Handed) (l : Lent) (k : ℕ) (sv : Served s x l k) 
                 let j = offsetOf g a in
                 let ψ = tableEntry h i σ in
                 ap (λ (o : OpenOutcome). deciphered g (keyOf (o .session) i) (storedEntry g (keyOf (o .session) i) (headerOf g s′ i) σ) j s′) is
-                ∙ ap (λ (φ : ℕ). deciphered g (keyOf (h .session) i) φ j s′) (stored i σ hi (sliceOf-lt g ok i a ha))
+                ∙ ap (λ (φ : ℕ). deciphered g (keyOf (h .session) i) φ j s′) (stored i σ hi (sliceOf-lt g ok a ha))
                 ∙ deciphered-same g (keyOf (h .session) i) ψ j s′ device
                 (λ ψ<p. (
                   slices-stay (ivStart g ψ j) 16 (omega (arith, slice-first g ψ)),

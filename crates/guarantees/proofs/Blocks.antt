@@ -5,7 +5,7 @@ use mathlib.Core.List.{List}
 use mathlib.Core.Bool.{Bool, true, false}
 use mathlib.Core.Logic.{inl, inr, ⊎-elim}
 use native.Mathlib.Omega.{arith}
-use native.Mathlib.Nat.{div-add-mod', mod-lt, div-lt-iff-lt-mul}
+use native.Mathlib.Nat.{div-add-mod'}
 use lib.ListN.{length, replicate, length-replicate, length-append}
 use lib.Arith.{digits-div, digits-mod}
 use lib.Dec.{eqb}
@@ -15,22 +15,17 @@ use Rattle.ctr.proofs.Stream.{ctr-twice, ctr-length}
 use Rattle.model.specs.declared.Geometry.{Geometry}
 use Rattle.model.specs.Parts.{choose, part, overlay, joined}
 use Rattle.model.specs.Geometry.{deviceLength, sliceSize, sliceStart, ivStart, blockStart, Allowed}
-use Rattle.model.specs.Session.{blockCount, slot, sliceOf, offsetOf}
+use Rattle.model.specs.Session.{slot, sliceOf, offsetOf}
 use Rattle.model.specs.Read.{deciphered}
 use Rattle.model.specs.Write.{claimedBytes}
 use Rattle.model.proofs.Parts.{overlay-length, overlay-within, overlay-whole, part-left, part-right, joined-length, joined-part}
+use Rattle.model.proofs.Bounds.{slice-fits, iv-within, block-within, iv-within-slice, iv-fits, block-fits}
 use Rattle.guarantees.proofs.Reflects.{below}
-use Rattle.guarantees.proofs.Places.{Apart, overlay-apart, slice-fits, block-in, iv-in, iv-in-slice, apart, iv-iv, iv-block, block-iv, block-block}
+use Rattle.guarantees.proofs.Places.{Apart, overlay-apart, apart, iv-iv, iv-block, block-iv, block-block}
 
 -- ---- addresses
 
 module _ (g : Geometry) where
-  pub offsetOf-lt : Allowed g → (a : ℕ) → offsetOf g a < g .s
-  offsetOf-lt ok a = mod-lt a (ok .slice-least)
-
-  pub sliceOf-lt : Allowed g → (i a : ℕ) → a < blockCount g i → sliceOf g a < g .p
-  sliceOf-lt ok i a l = div-lt-iff-lt-mul (ok .slice-least) .1 l
-
   pub same-address : (a b : ℕ) → sliceOf g a ≡ sliceOf g b → offsetOf g a ≡ offsetOf g b → a ≡ b
   same-address a b e f = sym (div-add-mod' a (g .s)) ∙ ap₂ (λ (x y : ℕ). x * g .s + y) e f ∙ div-add-mod' b (g .s)
 
@@ -73,14 +68,6 @@ module _ (g : Geometry) (ok : Allowed g) (device key iv text : List ℕ) (ψ j :
   cipher-long : length (ctr key iv text) ≡ g .b
   cipher-long = ctr-length key iv text ∙ textl
 
-  iv-fits : ivStart g ψ j + 16 ≤ length device
-  unfolding ivStart
-  iv-fits = omega (arith, slice-fits g hψ, iv-in-slice g ok hj)
-
-  block-fits : blockStart g ψ j + g .b ≤ length device₁
-  unfolding blockStart
-  block-fits = omega (arith, overlay-length device (ivStart g ψ j) iv, slice-fits g hψ, block-in g hj)
-
   -- A part apart from both places written.
   untouched : (a n : ℕ) → Apart a n (ivStart g ψ j) 16 → Apart a n (blockStart g ψ j) (g .b) → part a n restored ≡ part a n device
   untouched a n p q =
@@ -92,8 +79,9 @@ module _ (g : Geometry) (ok : Allowed g) (device key iv text : List ℕ) (ψ j :
       deciphered-mapped g key ψ j restored hψ
       ∙ ap₂ (ctr key)
       (overlay-apart device₁ (blockStart g ψ j) (ctr key iv text) (ivStart g ψ j) 16 (g .b) cipher-long (iv-block g ok ψ ψ j j hj hj)
-      ∙ overlay-whole device (ivStart g ψ j) iv 16 ivl iv-fits)
-      (overlay-whole device₁ (blockStart g ψ j) (ctr key iv text) (g .b) cipher-long block-fits)
+      ∙ overlay-whole device (ivStart g ψ j) iv 16 ivl (omega (arith, iv-fits g ok ψ j hψ hj)))
+      (overlay-whole device₁ (blockStart g ψ j) (ctr key iv text) (g .b) cipher-long
+      (omega (arith, overlay-length device (ivStart g ψ j) iv, block-fits g ok ψ j hψ hj)))
       ∙ ctr-twice key iv text
 
   -- Any other block of any slice, under any key.
@@ -133,19 +121,19 @@ module _ (g : Geometry) (key ivs text : List ℕ) (j : ℕ) (ivsl : length ivs �
     filled = overlay device (sliceStart g ψ) bytes
 
     fits : sliceStart g ψ + length bytes ≤ length device
-    fits = omega (arith, slice-fits g hψ, claimed-length)
+    fits = omega (arith, slice-fits g ok ψ hψ, claimed-length)
 
     iv-of : (n : ℕ) → n < g .s → part (ivStart g ψ n) 16 filled ≡ part (16 * n) 16 ivs
     unfolding ivStart claimedBytes
     iv-of n l =
-        overlay-within device (sliceStart g ψ) bytes (16 * n) 16 (omega (arith, claimed-length, iv-in-slice g ok l)) fits
-        ∙ part-left ivs (joined (g .s) cipher) (16 * n) 16 (omega (arith, iv-in g ok l))
+        overlay-within device (sliceStart g ψ) bytes (16 * n) 16 (omega (arith, claimed-length, iv-within-slice g ok n l)) fits
+        ∙ part-left ivs (joined (g .s) cipher) (16 * n) 16 (omega (arith, iv-within g ok n l))
 
     block-of : (n : ℕ) → n < g .s → part (blockStart g ψ n) (g .b) filled ≡ cipher n
     unfolding blockStart claimedBytes
     block-of n l =
         let skip : g .b * (1 + n) ≡ g .b + n * g .b = omega arith in
-        overlay-within device (sliceStart g ψ) bytes (g .b * (1 + n)) (g .b) (omega (arith, claimed-length, block-in g l)) fits
+        overlay-within device (sliceStart g ψ) bytes (g .b * (1 + n)) (g .b) (omega (arith, claimed-length, block-within g ok n l)) fits
         ∙ ap (λ (x : ℕ). part x (g .b) bytes) skip
         ∙ part-right ivs (joined (g .s) cipher) (g .b) ivsl (n * g .b) (g .b)
         ∙ joined-part (g .b) (g .s) cipher (λ m k. cipher-length m) n l
@@ -164,4 +152,4 @@ module _ (g : Geometry) (key ivs text : List ℕ) (j : ℕ) (ivsl : length ivs �
     unfolding ivStart blockStart
     filled-other key′ φ n hn ne =
         deciphered-same g key′ φ n filled device
-        (λ l. (elsewhere φ (16 * n) 16 ne (iv-in-slice g ok hn), elsewhere φ (g .b * (1 + n)) (g .b) ne (block-in g hn)))
+        (λ l. (elsewhere φ (16 * n) 16 ne (iv-within-slice g ok n hn), elsewhere φ (g .b * (1 + n)) (g .b) ne (block-within g ok n hn)))

@@ -4,7 +4,7 @@ use mathlib.Core.Path.{_≡_, refl, sym, ap, ap₂, _∙_}
 use mathlib.Core.List.{List, [], _∷_, _++_}
 use mathlib.Core.Logic.{⊎-elim}
 use native.Mathlib.Omega.{arith}
-use native.Mathlib.Nat.{add-zero, zero-add, div-add-mod', mod-lt, mod-eq-of-lt, div-lt-iff-lt-mul, mul-comm, mul-le-mul-left, mul-le-mul-right}
+use native.Mathlib.Nat.{add-zero, zero-add, div-add-mod', mod-lt, mod-eq-of-lt, mul-comm, mul-le-mul-left, mul-le-mul-right}
 use native.Mathlib.Nat.{eq-or-lt-of-le, le-of-suc-le-suc}
 use lib.ListN.{length, length-append}
 use lib.Seq.{take-all}
@@ -16,7 +16,7 @@ use Rattle.ctr.specs.CounterMode.{ctr}
 use Rattle.ctr.proofs.Stream.{ctr-twice, ctr-length}
 use Rattle.model.specs.declared.Geometry.{Geometry}
 use Rattle.model.specs.Parts.{choose, part, overlay, patched}
-use Rattle.model.specs.Geometry.{perBlock, mapBlocks, headerBlocks, deviceLength, numberAt, fourBytes, headerStart, headerOf, mapStart, Allowed}
+use Rattle.model.specs.Geometry.{perBlock, mapBlocks, deviceLength, numberAt, fourBytes, headerStart, headerOf, mapStart, Allowed}
 use Rattle.model.specs.Session.{Held, geometry, keyOf, entry, unmapped}
 use Rattle.model.specs.Opening.{storedEntry}
 use Rattle.model.specs.Close.{mapText, mapBlock, mapBytes, mapPatches}
@@ -24,6 +24,7 @@ use Rattle.model.specs.Conditions.{EntryFits, Enough}
 use Rattle.guarantees.specs.Runs.{Range, mapRanges}
 use Rattle.model.proofs.Parts.{part-length, part-left, part-right, part-part, overlay-before, overlay-within, joined-length, joined-part}
 use Rattle.model.proofs.Parts.{joined-piece, patched-++}
+use Rattle.model.proofs.Bounds.{b-bounds, perBlock-least, entries-fill, mapBlock-of, maps-fit}
 use Rattle.guarantees.proofs.Patches.{rangesOf, ranges-++, patched-length}
 use Rattle.guarantees.proofs.Places.{Apart, overlay-apart}
 
@@ -31,21 +32,6 @@ use Rattle.guarantees.proofs.Places.{Apart, overlay-apart}
 
 fourBytes-number : (x : ℕ) → x < 256 ^ 4 → number (fourBytes x) ≡ x
 fourBytes-number x l = number-bigEndian 0 4 x ∙ zero-add (x % 256 ^ 4) ∙ mod-eq-of-lt l
-
-module _ (g : Geometry) (ok : Allowed g) where
-  perBlock-whole : 16 + perBlock g * 4 ≡ g .b
-  perBlock-whole = ⊎-elim (λ e. rw e refl) (λ e. rw e refl) (ok .block)
-
-  perBlock-least : 1 ≤ perBlock g
-  perBlock-least = ⊎-elim (λ e. omega arith) (λ e. omega arith) (ok .block)
-
-  -- The m blocks have room for P entries.
-  mapBlocks-room : (σ : ℕ) → σ < g .p → σ / perBlock g < mapBlocks g
-  unfolding mapBlocks
-  mapBlocks-room σ l =
-      let n = g .p + (perBlock g - 1) in
-      div-lt-iff-lt-mul perBlock-least .1
-      (omega (arith, div-add-mod' n (perBlock g), mod-lt n perBlock-least, perBlock-least))
 
 module _ (maps : List ℕ) (g : Geometry) (ok : Allowed g) where
   abbrev c : ℕ
@@ -77,7 +63,7 @@ module _ (maps : List ℕ) (g : Geometry) (ok : Allowed g) where
 
     mapBlock-length : (t : ℕ) (iv : List ℕ) → length iv ≡ 16 → length (mapBlock maps g key i t iv) ≡ g .b
     unfolding mapBlock
-    mapBlock-length t iv e = length-append iv _ ∙ ap₂ (λ (x y : ℕ). x + y) e (cipher-length t iv) ∙ perBlock-whole g ok
+    mapBlock-length t iv e = length-append iv _ ∙ ap₂ (λ (x y : ℕ). x + y) e (cipher-length t iv) ∙ omega (arith, entries-fill g ok, b-bounds g ok)
 
     -- A map block is its IV, then its text in counter mode.
     mapBlock-iv : (t : ℕ) (iv : List ℕ) → length iv ≡ 16 → part 0 16 (mapBlock maps g key i t iv) ≡ iv
@@ -89,7 +75,7 @@ module _ (maps : List ℕ) (g : Geometry) (ok : Allowed g) where
     mapBlock-cipher t iv e =
         ap (λ (y : ℕ). part y (g .b - 16) (mapBlock maps g key i t iv)) (sym (add-zero 16))
         ∙ part-right iv (ctr key iv (mapText maps g i t)) 16 e 0 (g .b - 16)
-        ∙ take-all (g .b - 16) (ctr key iv (mapText maps g i t)) (omega (arith, cipher-length t iv, perBlock-whole g ok))
+        ∙ take-all (g .b - 16) (ctr key iv (mapText maps g i t)) (omega (arith, cipher-length t iv, entries-fill g ok))
 
     module _ (tape : List ℕ) (at : ℕ) (enough : Enough (length tape) at (16 * mapBlocks g)) where
       abbrev iv : ℕ → List ℕ
@@ -143,10 +129,6 @@ module _ (h : Held) (tape : List ℕ) (ok : Allowed (geometry h)) (K : ℕ)
       (ap (λ (x : ℕ). record { at = mapStart g₀ n; size = x } ∷ []) (bytes-length n l))
 
   module _ (s : List ℕ) (long : length s ≡ deviceLength g₀) (low : K ≤ 15) where
-    map-fits : (i : ℕ) → i < 15 → mapStart g₀ i + g₀ .b * m ≤ deviceLength g₀
-    unfolding mapStart deviceLength headerBlocks
-    map-fits i l = omega (arith, mul-le-mul-left (g₀ .b) (mul-le-mul-right (1 + m) l))
-
     maps-apart : (i n : ℕ) → i < n → mapStart g₀ i + g₀ .b * m ≤ mapStart g₀ n
     unfolding mapStart
     maps-apart i n l = omega (arith, mul-le-mul-left (g₀ .b) (mul-le-mul-right (1 + m) l))
@@ -165,7 +147,7 @@ module _ (h : Held) (tape : List ℕ) (ok : Allowed (geometry h)) (K : ℕ)
         ap (part (mapStart g₀ i + x) u) (after-suc n)
         ∙ ⊎-elim
         (λ e. rw e (overlay-within (after n) (mapStart g₀ n) (bytes n) x u (omega (arith, bytes-length n k))
-        (omega (arith, bytes-length n k, patched-length (mapPatches h tape n) s, map-fits n (omega arith)))))
+        (omega (arith, bytes-length n k, patched-length (mapPatches h tape n) s, maps-fit g₀ ok n (omega arith)))))
         (λ e. overlay-before (after n) (mapStart g₀ n) (bytes n) (mapStart g₀ i + x) u (omega (arith, maps-apart i n e))
         ∙ after-part n (omega arith) i e x u f)
         (eq-or-lt-of-le (le-of-suc-le-suc l))
@@ -206,12 +188,12 @@ module _ (h : Held) (tape : List ℕ) (ok : Allowed (geometry h)) (K : ℕ)
       header-iv : part (g₀ .b * (1 + t)) 16 header ≡ iv-at
       header-iv =
           ap (λ (y : ℕ). part y 16 header) (sym (add-zero (g₀ .b * (1 + t))))
-          ∙ header-part 0 16 (omega (arith, perBlock-whole g₀ ok))
+          ∙ header-part 0 16 (omega (arith, b-bounds g₀ ok))
           ∙ mapBlock-iv (h .maps) g₀ ok key i t iv-at iv-at-length
 
       header-cipher : part (g₀ .b * (1 + t) + 16) (g₀ .b - 16) header ≡ ctr key iv-at (mapText (h .maps) g₀ i t)
       header-cipher =
-          header-part 16 (g₀ .b - 16) (omega (arith, perBlock-whole g₀ ok))
+          header-part 16 (g₀ .b - 16) (omega (arith, b-bounds g₀ ok))
           ∙ mapBlock-cipher (h .maps) g₀ ok key i t iv-at iv-at-length
 
     -- What is read back is what was held.
@@ -220,7 +202,7 @@ module _ (h : Held) (tape : List ℕ) (ok : Allowed (geometry h)) (K : ℕ)
     unfolding storedEntry
     storedEntry-back i σ li lσ fits =
         let t = σ / perBlock g₀ in
-        let lt = mapBlocks-room g₀ ok σ lσ in
+        let lt = mapBlock-of g₀ ok σ lσ in
         ap₂ (λ (x y : List ℕ). numberAt (4 * (σ % perBlock g₀)) (ctr (keyOf (h .session) i) x y)) (header-iv i t li lt) (header-cipher i t li lt)
         ∙ ap (numberAt (4 * (σ % perBlock g₀))) (ctr-twice (keyOf (h .session) i) (iv-at i t li lt) (mapText (h .maps) g₀ i t))
         ∙ mapText-entry (h .maps) g₀ ok i σ lσ fits

@@ -1,4 +1,4 @@
--- Where slices, IVs and blocks lie. Assumes nothing.
+-- Slices, IVs and blocks that lie apart. Assumes nothing.
 use Prim.Native.Nat.{ℕ, zero, suc, _+_, _*_, _≤_, _<_}
 use mathlib.Core.Path.{_≡_, ap}
 use mathlib.Core.List.{List}
@@ -8,8 +8,9 @@ use native.Mathlib.Nat.{mul-le-mul-right, mul-le-mul-left}
 use lib.ListN.{length}
 use Rattle.model.specs.declared.Geometry.{Geometry}
 use Rattle.model.specs.Parts.{part, overlay}
-use Rattle.model.specs.Geometry.{deviceLength, sliceSize, sliceStart, ivStart, blockStart, Allowed}
+use Rattle.model.specs.Geometry.{sliceSize, sliceStart, ivStart, blockStart, Allowed}
 use Rattle.model.proofs.Parts.{overlay-before, overlay-after}
+use Rattle.model.proofs.Bounds.{iv-within, block-within, iv-within-slice}
 use Rattle.guarantees.proofs.Reflects.{three}
 
 -- Two ranges with no place in common.
@@ -22,34 +23,16 @@ pub overlay-apart {ℓ} : {A : Type ℓ} (s : List A) (at : ℕ) (d : List A) (a
 overlay-apart s at d a n len e = ⊎-elim (λ l. overlay-before s at d a n l) (λ l. overlay-after s at d a n (omega arith))
 
 module _ (g : Geometry) where
-  pub block-wide : Allowed g → 1024 ≤ g .b
-  block-wide ok = ⊎-elim (λ e. omega arith) (λ e. omega arith) (ok .block)
-
   slices-apart : {ψ φ : ℕ} → ψ < φ → sliceStart g ψ + sliceSize g ≤ sliceStart g φ
   unfolding sliceStart sliceSize
   slices-apart {ψ} {φ} l = omega (arith, mul-le-mul-left (g .b) (mul-le-mul-right (g .s + 1) l))
-
-  pub slice-fits : {ψ : ℕ} → ψ < g .p → sliceStart g ψ + sliceSize g ≤ deviceLength g
-  unfolding sliceStart sliceSize deviceLength
-  slice-fits {ψ} l = omega (arith, mul-le-mul-left (g .b) (mul-le-mul-right (g .s + 1) l))
 
   pub slice-first : (ψ : ℕ) → sliceStart g 0 ≤ sliceStart g ψ
   slice-first zero = omega arith
   slice-first (suc ψ) = let l : 0 < suc ψ = omega arith in omega (arith, slices-apart l)
 
-  pub block-in : {j : ℕ} → j < g .s → g .b * (1 + j) + g .b ≤ sliceSize g
-  unfolding sliceSize
-  block-in {j} l = omega (arith, mul-le-mul-left (g .b) l)
-
   blocks-apart : {j n : ℕ} → j < n → g .b * (1 + j) + g .b ≤ g .b * (1 + n)
   blocks-apart {j} {n} l = omega (arith, mul-le-mul-left (g .b) l)
-
-  -- The IV of block j lies in the IV block, and so in the slice.
-  pub iv-in : Allowed g → {j : ℕ} → j < g .s → 16 * j + 16 ≤ g .b
-  iv-in ok {j} l = omega (arith, ok .slice-most)
-
-  pub iv-in-slice : Allowed g → {j : ℕ} → j < g .s → 16 * j + 16 ≤ sliceSize g
-  iv-in-slice ok l = omega (arith, iv-in ok l, block-in l)
 
   -- What lies within two slices is apart where the slices differ, and else where it is apart within the slice.
   pub apart : (ψ φ x u y v : ℕ) → x + u ≤ sliceSize g → y + v ≤ sliceSize g → (ψ ≡ φ → Apart x u y v)
@@ -64,19 +47,21 @@ module _ (g : Geometry) where
     pub iv-iv : (ψ ≡ φ → j ≡ n → ⊥) → Apart (ivStart g ψ j) 16 (ivStart g φ n) 16
     unfolding ivStart
     iv-iv ne =
-        apart ψ φ (16 * j) 16 (16 * n) 16 (iv-in-slice ok hj) (iv-in-slice ok hn)
+        apart ψ φ (16 * j) 16 (16 * n) 16 (iv-within-slice g ok j hj) (iv-within-slice g ok n hn)
         (λ e. ⊎-elim (λ l. inl (omega arith)) (⊎-elim (λ q. absurd (ne e q)) (λ l. inr (omega arith))) (three j n))
 
     pub iv-block : Apart (ivStart g ψ j) 16 (blockStart g φ n) (g .b)
     unfolding ivStart blockStart
-    iv-block = apart ψ φ (16 * j) 16 (g .b * (1 + n)) (g .b) (iv-in-slice ok hj) (block-in hn) (λ e. inl (omega (arith, iv-in ok hj)))
+    iv-block =
+        apart ψ φ (16 * j) 16 (g .b * (1 + n)) (g .b) (iv-within-slice g ok j hj) (block-within g ok n hn) (λ e. inl (omega (arith, iv-within g ok j hj)))
 
     pub block-iv : Apart (blockStart g ψ j) (g .b) (ivStart g φ n) 16
     unfolding ivStart blockStart
-    block-iv = apart ψ φ (g .b * (1 + j)) (g .b) (16 * n) 16 (block-in hj) (iv-in-slice ok hn) (λ e. inr (omega (arith, iv-in ok hn)))
+    block-iv =
+        apart ψ φ (g .b * (1 + j)) (g .b) (16 * n) 16 (block-within g ok j hj) (iv-within-slice g ok n hn) (λ e. inr (omega (arith, iv-within g ok n hn)))
 
     pub block-block : (ψ ≡ φ → j ≡ n → ⊥) → Apart (blockStart g ψ j) (g .b) (blockStart g φ n) (g .b)
     unfolding blockStart
     block-block ne =
-        apart ψ φ (g .b * (1 + j)) (g .b) (g .b * (1 + n)) (g .b) (block-in hj) (block-in hn)
+        apart ψ φ (g .b * (1 + j)) (g .b) (g .b * (1 + n)) (g .b) (block-within g ok j hj) (block-within g ok n hn)
         (λ e. ⊎-elim (λ l. inl (blocks-apart l)) (⊎-elim (λ q. absurd (ne e q)) (λ l. inr (blocks-apart l))) (three j n))

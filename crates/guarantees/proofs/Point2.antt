@@ -22,13 +22,14 @@ use Rattle.guarantees.specs.Rules.{closeRules}
 use Rattle.guarantees.specs.Arrays.{Arrays, put, arraysAfter, arraysAfterAll, heldEntry, Fits, Unfit, ReadDue, FindDue, found, nowhere}
 use Rattle.guarantees.specs.Arrays.{WriteDue, rewrite-short, claim-short, no-slice, full, CloseDue, done, close-short, Due, AllDue}
 use Rattle.model.proofs.Parts.{part-length, overlay-before, overlay-length}
+use Rattle.model.proofs.Bounds.{sliceOf-lt, offsetOf-lt}
 use Rattle.guarantees.proofs.Reflects.{ltb-reflects, eqb-reflects, bool-reflects, reflects-stable, choose-reflects, equal}
 use Rattle.guarantees.proofs.Chains.{Leads, here, later}
 use Rattle.guarantees.proofs.Orders.{earlyRules, write-leads, close-leads}
 use Rattle.guarantees.proofs.Patches.{patched-length}
 use Rattle.guarantees.proofs.Places.{slice-first}
 use Rattle.guarantees.proofs.Sound.{Sound, OpenVolume, tableEntry}
-use Rattle.guarantees.proofs.Blocks.{offsetOf-lt, sliceOf-lt, same-address, deciphered-unmapped, restored-here, restored-other, claimedText}
+use Rattle.guarantees.proofs.Blocks.{same-address, deciphered-unmapped, restored-here, restored-other, claimedText}
 use Rattle.guarantees.proofs.Blocks.{filled-here, filled-other}
 use Rattle.guarantees.proofs.Cases.{unless-cases, Stands, Asked, readRefusalOf, readRefusal-none, readRefusal-served, writeRefusalOf}
 use Rattle.guarantees.proofs.Cases.{Writable, write-cases, write-stores, close-cases}
@@ -92,7 +93,7 @@ module _ (first : State) (device : List ℕ) (h : Held) (i a : ℕ) (text perm t
     hj = offsetOf-lt g ok a
 
     hσ : σ < g .p
-    hσ = sliceOf-lt g ok i a (w .asked .address)
+    hσ = sliceOf-lt g ok a (w .asked .address)
 
     rewrites : heldEntry h i a < g .p → Enough (length tape) (h .position) 16 → Keeps (rewritten h i (heldEntry h i a) j₀ text tape)
     unfolding arraysAfter patched ivStart blockStart
@@ -132,7 +133,7 @@ module _ (first : State) (device : List ℕ) (h : Held) (i a : ℕ) (text perm t
             ∙ op .holds j b oj hb
             ∙ sym (restored-other g ok device (key i) iv text (heldEntry h i a) j₀ l hj (w .stands .long) ivl (w .asked .size)
             (key j) (heldEntry h j b) (offsetOf g b) (offsetOf-lt g ok b)
-            (λ e f. let q = op .sound .once i σ j (sliceOf g b) (w .asked .volume) oj hσ (sliceOf-lt g ok j b hb) l (sym e) in
+            (λ e f. let q = op .sound .once i σ j (sliceOf g b) (w .asked .volume) oj hσ (sliceOf-lt g ok b hb) l (sym e) in
             ne (sym (q .0)) (same-address g b a (sym (q .1)) f)))
 
     module _ (ψ place : ℕ) (un : heldEntry h i a ≡ unmapped) (hψ : ψ < g .p) (free : getD (h .owners) ψ 0 ≡ 0)
@@ -168,7 +169,7 @@ module _ (first : State) (device : List ℕ) (h : Held) (i a : ℕ) (text perm t
           ⊎-elim (λ e. ⊎-elim (mine e) (λ d. others (λ p q. d q)) (equal (sliceOf g b) σ)) (λ d. others (λ p q. d p)) (equal j i)
         where
           hb′ : sliceOf g b < g .p
-          hb′ = sliceOf-lt g ok j b hb
+          hb′ = sliceOf-lt g ok b hb
 
           -- Another logical slice.
           others : (j ≡ i → sliceOf g b ≡ σ → ⊥)
@@ -242,7 +243,7 @@ module _ (first : State) (st : State) (arrays : Arrays) (kept : Kept first array
           volume = f .volume;
           address = f .address;
           size = f .size;
-          mapped = op .sound .whole i (sliceOf g₀ a) (f .volume) (sliceOf-lt g₀ (op .stands .usable .allowed) i a (f .address));
+          mapped = op .sound .whole i (sliceOf g₀ a) (f .volume) (sliceOf-lt g₀ (op .stands .usable .allowed) a (f .address));
         },
       )
 
@@ -272,7 +273,7 @@ module _ (first : State) (st : State) (arrays : Arrays) (kept : Kept first array
             rw q (Unfit.size (live u) (many p) (omega arith) (omega arith) f)
         go (later u (later l (later t (later p (later v (later w (later s (here f q c)))))))) =
             let op = kept (live u) in
-            absurd (f (op .sound .whole i (sliceOf g₀ a) (omega arith) (sliceOf-lt g₀ (op .stands .usable .allowed) i a (omega arith))))
+            absurd (f (op .sound .whole i (sliceOf g₀ a) (omega arith) (sliceOf-lt g₀ (op .stands .usable .allowed) a (omega arith))))
 
   -- A read is refused as a write with a permutation of P places.
   read-unfit : (i a len r : ℕ) → readRefusalOf n h₀ i a len ≡ suc r → Unfit h₀ (g₀ .p) i a len (suc r)

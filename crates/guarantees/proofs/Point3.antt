@@ -21,11 +21,11 @@ use Rattle.model.specs.Conditions.{Enough}
 use Rattle.guarantees.specs.Arrays.{heldEntry}
 use Rattle.guarantees.specs.Points.{EqualRuns}
 use Rattle.model.proofs.Parts.{part-length, part-agree}
+use Rattle.model.proofs.Bounds.{sliceOf-lt, offsetOf-lt, block-within, iv-within-slice}
 use Rattle.guarantees.proofs.Reflects.{below}
 use Rattle.guarantees.proofs.Patches.{rangesOf, patched-length, patched-both, patched-written}
-use Rattle.guarantees.proofs.Places.{iv-in-slice, block-in}
 use Rattle.guarantees.proofs.Sound.{OpenVolume, tableEntry}
-use Rattle.guarantees.proofs.Blocks.{offsetOf-lt, sliceOf-lt, deciphered-same, claimed-length}
+use Rattle.guarantees.proofs.Blocks.{deciphered-same, claimed-length}
 use Rattle.guarantees.proofs.Cases.{Asked, readRefusalOf, readRefusal-none, Writable, write-stores, close-cases}
 use Rattle.guarantees.proofs.Claims.{claimed-entry-cases}
 use Rattle.guarantees.proofs.Stored.{run-stored, run-ranges}
@@ -59,15 +59,15 @@ module _ (s t : List ℕ) (h : Held) (alike : Alike (record { device = s; held =
     same-part : (x n : ℕ) → x + n ≤ sliceSize g → part (sliceStart g ψ₀ + x) n s ≡ part (sliceStart g ψ₀ + x) n t
     same-part x n fits =
         part-agree 0 s t (sliceStart g ψ₀ + x) n (alike .long)
-        (λ p lo hi. alike .slices i (sliceOf g a) (asked .volume) (sliceOf-lt g ok i a (asked .address)) l p (omega arith) (omega arith))
+        (λ p lo hi. alike .slices i (sliceOf g a) (asked .volume) (sliceOf-lt g ok a (asked .address)) l p (omega arith) (omega arith))
 
     same-iv : part (ivStart g ψ₀ (offsetOf g a)) 16 s ≡ part (ivStart g ψ₀ (offsetOf g a)) 16 t
     unfolding ivStart
-    same-iv = same-part (16 * offsetOf g a) 16 (iv-in-slice g ok (offsetOf-lt g ok a))
+    same-iv = same-part (16 * offsetOf g a) 16 (iv-within-slice g ok _ (offsetOf-lt g ok a))
 
     same-data : part (blockStart g ψ₀ (offsetOf g a)) (g .b) s ≡ part (blockStart g ψ₀ (offsetOf g a)) (g .b) t
     unfolding blockStart
-    same-data = same-part (g .b * (1 + offsetOf g a)) (g .b) (block-in g (offsetOf-lt g ok a))
+    same-data = same-part (g .b * (1 + offsetOf g a)) (g .b) (block-within g ok _ (offsetOf-lt g ok a))
 
   -- What is given only where a read is not refused is the same on both, if it is where the read is served.
   same-unless : {A : Type 0} (i a len : ℕ) (refusal : ℕ → A) (f : List ℕ → A) → (Allowed g → Asked h i a len → f s ≡ f t)
@@ -148,7 +148,7 @@ module _ (s t : List ℕ) (h : Held) (alike : Alike (record { device = s; held =
               (λ c. patched-both p (o .patches) s t (alike .long)
               (alike .slices j τ oj hτ (rw (c .1) at m) p (rw (c .1) at lo) (rw (c .1) at hi)))
               (claimed-entry-cases (length s) h i (sliceOf g a) (offsetOf g a) ψ place text tape (w .stands) (w .asked .volume)
-              (sliceOf-lt g (w .stands .usable .allowed) i a (w .asked .address)) j τ hτ)
+              (sliceOf-lt g (w .stands .usable .allowed) a (w .asked .address)) j τ hτ)
 
   -- After a close nothing is mapped.
   close-after : (tape : List ℕ) → After (closeModel (length s) h tape)

@@ -15,8 +15,8 @@ use Rattle.guarantees.specs.Runs.{State, Call, final, events, allPlaces,
 use Rattle.guarantees.specs.Arrays.{Arrays}
 use Rattle.guarantees.specs.Openings.{AllUnlocked}
 use Rattle.guarantees.specs.Points.{Handed, Lent, opens, holds, begin, mapEntry, firstArrays, Opens, Run, Agree, EqualRuns, Points23}
+use Rattle.model.proofs.Bounds.{sliceOf-lt}
 use Rattle.guarantees.proofs.Sound.{tableEntry}
-use Rattle.guarantees.proofs.Blocks.{sliceOf-lt}
 use Rattle.guarantees.proofs.Opened.{holding, Served, served, served-is, openedBy, served-sound, served-stands, served-opens, served-entry}
 use Rattle.guarantees.proofs.Opened.{served-taken, served-cell, served-same}
 use Rattle.guarantees.proofs.Keys.{served-keys}
@@ -59,7 +59,7 @@ module _ (s : List ℕ) (x : Handed) (l : Lent) (k : ℕ) (sv : Served s x l k) 
         header = λ a n fits. refl;
         holds = λ j b oj hb.
             ap (λ (ψ : ℕ). deciphered g (keyOf (openedBy s x l k sv .session) j) ψ (offsetOf g b) s)
-            (served-entry s x l k sv j (sliceOf g b) oj (sliceOf-lt g (served-taken s x l k sv .good) j b hb));
+            (served-entry s x l k sv j (sliceOf g b) oj (sliceOf-lt g (served-taken s x l k sv .good) b hb));
       })
 
   geometry-is : geometry (holds s x l) ≡ g

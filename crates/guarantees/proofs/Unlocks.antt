@@ -4,7 +4,7 @@ use mathlib.Core.Path.{_≡_, refl, sym, subst}
 use mathlib.Core.Logic.{⊎-elim}
 use mathlib.Core.Bool.{not, _||_}
 use mathlib.Core.List.{List, [], _++_}
-use native.Mathlib.Nat.{add-zero, zero-add, eq-or-lt-of-le, le-of-suc-le-suc, mul-le-mul-left, mul-le-mul-right}
+use native.Mathlib.Nat.{add-zero, zero-add, eq-or-lt-of-le, le-of-suc-le-suc}
 use native.Mathlib.Omega.{arith}
 use lib.ListN.{length, replicate, length-append}
 use lib.Seq.{take-at}
@@ -14,11 +14,11 @@ use Rattle.gcm.proofs.Gctr.{text-length}
 use Rattle.gcm.proofs.Same.{open-right}
 use Rattle.model.specs.declared.Geometry.{Geometry}
 use Rattle.model.specs.Parts.{part}
-use Rattle.model.specs.Geometry.{Allowed, mapBlocks, headerBlocks, deviceLength, numberAt, cellOf, headerStart, headerOf}
+use Rattle.model.specs.Geometry.{Allowed, mapBlocks, deviceLength, numberAt, cellOf, headerStart, headerOf}
 use Rattle.model.specs.Opening.{Cell, At, NoCell, openCell, orNext, firstCell, openHeader, vekOf, vmkBelow, Chain, Keys, Broken, link, chain, allKeys}
 use Rattle.guarantees.specs.Openings.{Lowest, HeaderFits, Reached, from-above, Unlocked, AllUnlocked}
 use Rattle.model.proofs.Parts.{part-length, part-left, part-right}
-use Rattle.guarantees.proofs.Places.{block-wide}
+use Rattle.model.proofs.Bounds.{b-bounds, header-fits}
 use Rattle.guarantees.proofs.Reflects.{eqb-reflects, Refutes, not-refutes, or-refutes, choose-refutes}
 
 -- ---- the cells
@@ -96,18 +96,13 @@ module _ (device : List ℕ) (g : Geometry) (k : ℕ) (top : List ℕ) where
 
   module _ (ok : Allowed g) (long : length device ≡ deviceLength g) (low : k < 15) where
     vekOf-length : (i : ℕ) → i ≤ k → (vmk text : List ℕ) → openHeader vmk i (header i) ≡ Text text → length (vekOf text) ≡ 32
-    unfolding deviceLength headerBlocks
     vekOf-length i hi vmk text e =
         part-length text 0 32
-        (omega (arith, gcmOpen-length _ _ _ _ _ text e, part-length (header i) 12 72 (omega (arith, header-long, block-wide g ok))))
+        (omega (arith, gcmOpen-length _ _ _ _ _ text e, part-length (header i) 12 72 (omega (arith, header-long, b-bounds g ok))))
       where
-        i<15 : i < 15
-        i<15 = omega arith
-
         header-long : length (header i) ≡ g .b * (1 + mapBlocks g)
         header-long =
-            part-length device (headerStart g i) (g .b * (1 + mapBlocks g))
-            (omega (arith, mul-le-mul-left (g .b) (mul-le-mul-right (1 + mapBlocks g) i<15)))
+            part-length device (headerStart g i) (g .b * (1 + mapBlocks g)) (omega (arith, header-fits g ok i (omega arith)))
 
     unlockedFrom-more : (n : ℕ) → n ≤ k → (vmk text above : List ℕ) → Reached device g k top n vmk → openHeader vmk n (header n) ≡ Text text
         → HeaderFits g text → UnlockedFrom (suc n) above → UnlockedFrom n (vekOf text ++ above)

@@ -1,5 +1,6 @@
 pub mod Parts
 pub mod Tests
+pub mod Bounds
 pub mod Requests
 pub mod Cells
 pub mod Claimed

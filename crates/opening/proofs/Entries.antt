@@ -2,7 +2,7 @@
 use Prim.Native.Nat.{ℕ, _+_, _-_, _*_, _/_, _%_, _≤_, _<_}
 use mathlib.Core.Path.{_≡_, sym, ap, ap₂, _∙_}
 use mathlib.Core.List.{List}
-use native.Mathlib.Nat.{le-div-iff-mul-le, div-add-mod', mod-lt, mul-le-mul-left}
+use native.Mathlib.Nat.{mod-lt, mul-le-mul-left}
 use native.Mathlib.Omega.{arith}
 use lib.Arith.{digits-div, digits-mod}
 use lib.ListN.{length, take, drop}
@@ -11,7 +11,7 @@ use Rattle.model.specs.declared.Geometry.{Geometry}
 use Rattle.model.specs.Parts.{part}
 use Rattle.model.specs.Geometry.{Allowed, perBlock, mapBlocks, deviceLength, numberAt, headerStart, headerOf}
 use Rattle.model.specs.Opening.{storedEntry, mapEntries}
-use Rattle.places.proofs.Bounds.{b-bounds}
+use Rattle.model.proofs.Bounds.{b-bounds, mapBlock-of}
 use Rattle.opening.proofs.Headers.{part-header}
 
 module _ (g : Geometry) where
@@ -28,15 +28,6 @@ module _ (g : Geometry) where
       ∙ ap₂ (λ (x y : ℕ). numberAt (4 * x) (blockText key header y)) (digits-mod t l) (digits-div t l)
 
   module _ (ok : Allowed g) where
-    -- A block that begins within the volume is one of its map blocks.
-    pub mapBlock-lt : (t : ℕ) → t * perBlock g < g .p → t < mapBlocks g
-    unfolding mapBlocks
-    mapBlock-lt t l =
-        let c1 : 1 ≤ perBlock g = omega (arith, b-bounds g ok .0) in
-        let h : (t + 1) * perBlock g ≤ g .p + (perBlock g - 1) = omega arith in
-        let q : t + 1 ≤ (g .p + (perBlock g - 1)) / perBlock g = le-div-iff-mul-le {k = perBlock g} {x = t + 1} {y = g .p + (perBlock g - 1)} c1 .1 h in
-        omega arith
-
     -- A map block ends within its header.
     pub mapBlock-fits : (t : ℕ) → t < mapBlocks g → g .b * (1 + t) + g .b ≤ g .b * (1 + mapBlocks g)
     mapBlock-fits t l = omega (arith, mul-le-mul-left {m = 1 + t + 1} {n = 1 + mapBlocks g} (g .b) (omega arith))
@@ -46,10 +37,8 @@ module _ (g : Geometry) where
         → storedEntry g key (take (length device - s) (drop s device)) σ ≡ storedEntry g key (headerOf g device v) σ
     unfolding storedEntry
     storedEntry-longer key device v lv e {s} q σ l =
-        let c1 : 1 ≤ perBlock g = omega (arith, b-bounds g ok .0) in
         let t : ℕ = σ / perBlock g in
-        let d = div-add-mod' σ (perBlock g) in
-        let inside = mapBlock-fits t (mapBlock-lt t (omega (arith, d))) in
+        let inside = mapBlock-fits t (mapBlock-of g ok σ l) in
         let same-part = part-header g ok device v lv e q in
         ap₂ (λ (i x : List ℕ). numberAt (4 * (σ % perBlock g)) (ctr key i x))
         (same-part (g .b * (1 + t)) 16 (omega (arith, b-bounds g ok)))

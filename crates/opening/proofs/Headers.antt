@@ -17,7 +17,7 @@ use Rattle.model.specs.Parts.{choose, part}
 use Rattle.model.specs.Geometry.{Allowed, mapBlocks, deviceLength, numberAt, headerStart, headerOf}
 use Rattle.model.specs.Opening.{Cell, NoCell, openCell, openHeader, orNext, firstCell, Chain, Broken, link}
 use Rattle.model.proofs.Parts.{part-lent, part-part}
-use Rattle.places.proofs.Bounds.{b-bounds, header-fits}
+use Rattle.model.proofs.Bounds.{b-bounds, header-fits}
 use Rattle.opening.specs.declared.Found.the-variants as found
 use Rattle.opening.specs.Steps.{isText, CellFound, HeaderOpened}
 

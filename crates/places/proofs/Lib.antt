@@ -1,4 +1,3 @@
 pub mod Parts
-pub mod Bounds
 pub mod Numbers
 pub mod Refusals

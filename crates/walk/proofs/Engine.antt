@@ -20,7 +20,7 @@ use Rattle.model.specs.Conditions.{EntryFits, Enough}
 use Rattle.model.specs.Opening.{member}
 use Rattle.model.proofs.Tests.{equal-passes, refuse-false, badEntry-fits}
 use Rattle.model.proofs.Requests.{Stands, standing-stands, short-true}
-use Rattle.places.proofs.Bounds.{b-bounds}
+use Rattle.model.proofs.Bounds.{b-bounds}
 use Rattle.deciding.proofs.Outcomes.{firstFree-free}
 use Rattle.walk.specs.State.{zeros, endless}
 use Rattle.walk.specs.Theorems.{answerNumbers}

@@ -17,7 +17,7 @@ use Rattle.model.specs.Session.{Held, geometry, offsetOf, unmapped}
 use Rattle.model.specs.Opening.{member}
 use Rattle.model.specs.Conditions.{EntryFits}
 use Rattle.model.proofs.Tests.{badGeometry-none}
-use Rattle.places.proofs.Bounds.{b-bounds, bytes-small, offsetOf-lt, block-fits}
+use Rattle.model.proofs.Bounds.{b-bounds, bytes-small, offsetOf-lt, block-fits}
 use Rattle.walk.specs.Hexadecimal.{Spelt, Bytes, Neither, decode}
 use Rattle.walk.specs.State.{State, empty}
 use Rattle.walk.specs.Frames.{Stepped, refusedBy, sizeOf, onSize, pairs, onOrder, served, printed, counting, written, onClaim, onKind, onFrame, step}

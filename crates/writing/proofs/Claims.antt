@@ -13,7 +13,7 @@ use Rattle.model.specs.declared.Geometry.{Geometry}
 use Rattle.model.specs.Parts.{choose, part}
 use Rattle.model.specs.Geometry.{Allowed, deviceLength, sliceStart, blockStart}
 use Rattle.model.proofs.Parts.{part-lent}
-use Rattle.places.proofs.Bounds.{block-fits}
+use Rattle.model.proofs.Bounds.{block-fits}
 
 -- Data block n of a claimed slice.
 abbrev pub claimedBlock : (b : ℕ) → (key ivs : List ℕ) → (j : ℕ) → (text : List ℕ) → (n : ℕ) → List ℕ

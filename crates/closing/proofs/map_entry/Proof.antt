@@ -1,7 +1,7 @@
 -- `closing::map_entry` meets its contract. Assumes nothing.
 use mathlib.Core.Path.{sym, _∙_}
 use borrow.Author.Tests.{lt-ltb, le-ltb}
-use Rattle.places.proofs.Bounds.{slot-lt}
+use Rattle.model.proofs.Bounds.{slot-lt}
 use Rattle.closing.proofs.map_entry.Statement.{statement}
 use Rattle.closing.proofs.map_entry.Tie as tie
 

@@ -7,7 +7,7 @@ use lib.Seq.{length-take-le}
 use borrow.Author.Needs.{needs}
 use Rattle.model.specs.declared.Geometry.{Geometry}
 use Rattle.model.specs.Geometry.{Allowed}
-use Rattle.places.proofs.Bounds.{b-bounds}
+use Rattle.model.proofs.Bounds.{b-bounds}
 use Rattle.closing.proofs.store_map.Statement.{statement}
 use Rattle.closing.proofs.store_map.Tie as tie
 

@@ -9,7 +9,7 @@ use Rattle.model.specs.Parts.{overlay, joined}
 use Rattle.model.specs.Geometry.{mapBlocks}
 use Rattle.model.specs.Close.{mapBlock, mapBytes}
 use Rattle.model.proofs.Parts.{part-lent, part-lent-length, overlay-length}
-use Rattle.places.proofs.Bounds.{mapBlocks-small, map-fits, deviceLength-small}
+use Rattle.model.proofs.Bounds.{mapBlocks-small, map-fits, deviceLength-small}
 use Rattle.places.proofs.Parts.{overlay-none}
 use Rattle.closing.proofs.MapBlocks.{blockBytes, mapBytes-turn}
 use Rattle.closing.proofs.store_maps.Statement.{statement}

@@ -11,7 +11,7 @@ use Rattle.model.specs.Parts.{part}
 use Rattle.model.specs.Geometry.{numberAt}
 use Rattle.model.specs.Opening.{load}
 use Rattle.model.proofs.Parts.{part-length, part-lent, part-lent-length}
-use Rattle.places.proofs.Bounds.{b-bounds, mapBlocks-small}
+use Rattle.model.proofs.Bounds.{b-bounds, mapBlocks-small}
 use Rattle.opening.proofs.Loads.{settled-by}
 use Rattle.opening.proofs.Entries.{mapBlock-fits}
 use Rattle.opening.proofs.load_block.Statement.{statement}

@@ -12,7 +12,7 @@ use Rattle.model.specs.Geometry.{mapBlocks, headerOf}
 use Rattle.model.specs.Opening.{storedEntry, mapEntries, load}
 use Rattle.model.proofs.Parts.{part-length, part-lent, part-lent-length}
 use Rattle.tables.specs.Settled.{Settled}
-use Rattle.places.proofs.Bounds.{header-fits}
+use Rattle.model.proofs.Bounds.{header-fits}
 use Rattle.opening.proofs.Refusals.{answer-refused, answer-served}
 use Rattle.opening.proofs.Loads.{settled-tables, settled-spoilt, tables-settled, spoilt-settled, settled-by}
 use Rattle.opening.proofs.Loads.{andThen, andThen-tables, andThen-spoilt, load-done, load-run, load-cong}

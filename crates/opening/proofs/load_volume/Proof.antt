@@ -12,11 +12,11 @@ use Rattle.model.specs.declared.Geometry.{Geometry}
 use Rattle.model.specs.Geometry.{Allowed, perBlock, numberAt}
 use Rattle.model.specs.Opening.{storedEntry, load}
 use Rattle.tables.specs.Settled.{Settled}
-use Rattle.places.proofs.Bounds.{b-bounds, mapBlocks-small}
+use Rattle.model.proofs.Bounds.{b-bounds, mapBlocks-small, mapBlock-lt}
 use Rattle.opening.proofs.Refusals.{answer-refused, answer-served}
 use Rattle.opening.proofs.Loads.{settled-tables, settled-spoilt, tables-settled, spoilt-settled, settled-by}
 use Rattle.opening.proofs.Loads.{andThen, andThen-tables, andThen-spoilt, load-done, load-run, load-cong}
-use Rattle.opening.proofs.Entries.{blockText, storedEntry-block, mapBlock-lt}
+use Rattle.opening.proofs.Entries.{blockText, storedEntry-block}
 use Rattle.opening.proofs.load_volume.Statement.{statement}
 use Rattle.opening.proofs.load_volume.Tie as tie
 

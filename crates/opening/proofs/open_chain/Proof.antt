@@ -13,7 +13,7 @@ use Rattle.model.specs.Parts.{part}
 use Rattle.model.specs.Geometry.{mapBlocks, headerOf}
 use Rattle.model.specs.Opening.{openHeader, vekOf, chain}
 use Rattle.model.proofs.Parts.{part-length}
-use Rattle.places.proofs.Bounds.{b-bounds, header-fits}
+use Rattle.model.proofs.Bounds.{b-bounds, header-fits}
 use Rattle.opening.specs.Steps.{HeaderOpened}
 use Rattle.opening.proofs.Refusals.{answer-refused, answer-served}
 use Rattle.opening.proofs.Headers.{openHeader-longer}

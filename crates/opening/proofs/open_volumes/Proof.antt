@@ -7,7 +7,7 @@ use Rattle.refusals.specs.Numbers.{answerNumber}
 use Rattle.model.specs.Geometry.{cellOf, headerOf}
 use Rattle.model.specs.Opening.{At, firstCell, NotOpened, noMaps, noOwners}
 use Rattle.model.specs.Answers.{openResult}
-use Rattle.places.proofs.Bounds.{cell-fits}
+use Rattle.model.proofs.Bounds.{cell-fits}
 use Rattle.opening.proofs.Refusals.{answer-refused, answer-served}
 use Rattle.opening.proofs.Outcomes.{found-at, found-below, found-none, withCell-none, withCell-broken, withCell-served, leaves-refused, leaves-by}
 use Rattle.opening.proofs.open_volumes.Statement.{statement}

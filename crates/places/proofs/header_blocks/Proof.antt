@@ -4,7 +4,7 @@ use Prim.Native.Nat.{ℕ, _+_, _*_, _≤_}
 use native.Mathlib.Omega.{arith}
 use borrow.Author.Needs.{needs}
 use Rattle.model.specs.Geometry.{headerBlocks}
-use Rattle.places.proofs.Bounds.{mapBlocks-small}
+use Rattle.model.proofs.Bounds.{mapBlocks-small}
 use Rattle.places.proofs.header_blocks.Statement.{statement}
 use Rattle.places.proofs.header_blocks.Tie as tie
 

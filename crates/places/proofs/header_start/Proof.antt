@@ -3,7 +3,7 @@ use mathlib.Core.Path.{ap}
 use Prim.Native.Nat.{ℕ, _+_, _*_, _≤_}
 use native.Mathlib.Omega.{arith}
 use borrow.Author.Needs.{needs}
-use Rattle.places.proofs.Bounds.{mapBlocks-small, headers-small, mapStart-small}
+use Rattle.model.proofs.Bounds.{mapBlocks-small, headers-small, mapStart-small}
 use Rattle.places.proofs.header_start.Statement.{statement}
 use Rattle.places.proofs.header_start.Tie as tie
 

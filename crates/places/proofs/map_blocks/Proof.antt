@@ -3,7 +3,7 @@ use mathlib.Core.Path.{refl}
 use native.Mathlib.Omega.{arith}
 use borrow.Author.Needs.{needs}
 use Rattle.model.specs.Geometry.{mapBlocks}
-use Rattle.places.proofs.Bounds.{b-bounds}
+use Rattle.model.proofs.Bounds.{b-bounds}
 use Rattle.places.proofs.map_blocks.Statement.{statement}
 use Rattle.places.proofs.map_blocks.Tie as tie
 

@@ -4,7 +4,7 @@ use Prim.Native.Nat.{ℕ, _+_, _*_, _≤_}
 use native.Mathlib.Omega.{arith}
 use borrow.Author.Needs.{needs}
 use Rattle.model.specs.Geometry.{mapStart}
-use Rattle.places.proofs.Bounds.{mapBlocks-small, headers-small, mapStart-small}
+use Rattle.model.proofs.Bounds.{mapBlocks-small, headers-small, mapStart-small}
 use Rattle.places.proofs.map_start.Statement.{statement}
 use Rattle.places.proofs.map_start.Tie as tie
 

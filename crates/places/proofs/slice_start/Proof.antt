@@ -4,7 +4,7 @@ use Prim.Native.Nat.{ℕ, _+_, _*_}
 use native.Mathlib.Omega.{arith}
 use borrow.Author.Needs.{needs}
 use Rattle.model.specs.Geometry.{sliceStart}
-use Rattle.places.proofs.Bounds.{headerBlocks-small, slices-small, bytes-small}
+use Rattle.model.proofs.Bounds.{headerBlocks-small, slices-small, bytes-small}
 use Rattle.places.proofs.slice_start.Statement.{statement}
 use Rattle.places.proofs.slice_start.Tie as tie
 

@@ -7,7 +7,7 @@ use mathlib.Core.Logic.{inr}
 use Rattle.refusals.specs.Numbers.{refuse}
 use Rattle.model.specs.Session.{asked}
 use Rattle.model.proofs.Tests.{badEntry-fits}
-use Rattle.places.proofs.Bounds.{blockCount-small, slot-lt, sliceOf-lt}
+use Rattle.model.proofs.Bounds.{blockCount-small, slot-lt, sliceOf-lt}
 use Rattle.reading.proofs.check_asked.Statement.{statement}
 use Rattle.reading.proofs.check_asked.Tie as tie
 

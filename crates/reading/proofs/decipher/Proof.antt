@@ -6,7 +6,7 @@ use borrow.Author.Needs.{needs}
 use lib.ListN.{length, replicate}
 use Rattle.ctr.specs.CounterMode.{ctr}
 use Rattle.model.proofs.Parts.{part-lent}
-use Rattle.places.proofs.Bounds.{iv-fits, block-fits}
+use Rattle.model.proofs.Bounds.{iv-fits, block-fits}
 use Rattle.reading.proofs.Outcomes.{deciphered-mapped, deciphered-unmapped}
 use Rattle.reading.proofs.decipher.Statement.{statement}
 use Rattle.reading.proofs.decipher.Tie as tie

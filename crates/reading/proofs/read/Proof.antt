@@ -9,7 +9,7 @@ use Rattle.refusals.specs.Numbers.{answerNumber}
 use Rattle.model.specs.Session.{offsetOf}
 use Rattle.model.specs.Read.{deciphered, readRefusal}
 use Rattle.model.proofs.Parts.{part-lent}
-use Rattle.places.proofs.Bounds.{offsetOf-lt}
+use Rattle.model.proofs.Bounds.{offsetOf-lt}
 use Rattle.reading.proofs.Order.{answer-positive}
 use Rattle.reading.proofs.Outcomes.{asked-slot, Ready, readRefusal-none, read-refused, read-served}
 use Rattle.reading.proofs.read.Statement.{statement}

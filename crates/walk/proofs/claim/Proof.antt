@@ -9,7 +9,7 @@ use Rattle.model.specs.declared.Geometry.{Geometry}
 use Rattle.model.specs.declared.Session.{Session}
 use Rattle.model.specs.Geometry.{deviceLength}
 use Rattle.model.specs.Session.{held, slot, sliceOf}
-use Rattle.places.proofs.Bounds.{offsetOf-lt}
+use Rattle.model.proofs.Bounds.{offsetOf-lt}
 use Rattle.reading.proofs.Outcomes.{asked-slot}
 use Rattle.deciding.specs.declared.Decision.{Decision}
 use Rattle.deciding.specs.declared.Decision.the-variants.{Rewrite, Claim}

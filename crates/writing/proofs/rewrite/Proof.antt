@@ -6,7 +6,7 @@ use native.Mathlib.Omega.{arith}
 use borrow.Author.Needs.{needs}
 use Rattle.ctr.specs.CounterMode.{ctr}
 use Rattle.model.specs.Parts.{overlay}
-use Rattle.places.proofs.Bounds.{b-bounds, iv-fits, block-fits}
+use Rattle.model.proofs.Bounds.{b-bounds, iv-fits, block-fits}
 use Rattle.writing.proofs.rewrite.Statement.{statement}
 use Rattle.writing.proofs.rewrite.Tie as tie
 

@@ -12,7 +12,7 @@ use Rattle.model.specs.Session.{Held, held, keyOf, slot, sliceOf}
 use Rattle.model.specs.Write.{Served}
 use Rattle.model.specs.Answers.{writeResult}
 use Rattle.model.proofs.Parts.{part-length, part-lent, part-lent-length}
-use Rattle.places.proofs.Bounds.{offsetOf-lt}
+use Rattle.model.proofs.Bounds.{offsetOf-lt}
 use Rattle.reading.proofs.Outcomes.{asked-slot}
 use Rattle.deciding.specs.declared.Decision.{Decision}
 use Rattle.deciding.specs.declared.Decision.the-variants.{Refused, Rewrite, Claim}

@@ -1,14 +1,14 @@
 -- Bounds of an allowed geometry: its numbers are small, and every place lies on the device. Assumes nothing.
-use Prim.Native.Nat.{ℕ, _+_, _-_, _*_, _^_, _≤_, _<_}
+use Prim.Native.Nat.{ℕ, _+_, _-_, _*_, _/_, _^_, _≤_, _<_}
 use mathlib.Core.Path.{_≡_, refl}
 use mathlib.Core.Logic.{⊎-elim}
-use native.Mathlib.Nat.{mul-le-mul, mul-le-mul-left, mul-le-mul-right, mod-lt, div-lt-iff-lt-mul}
+use native.Mathlib.Nat.{mul-le-mul, mul-le-mul-left, mul-le-mul-right, mod-lt, div-add-mod', div-lt-iff-lt-mul, le-div-iff-mul-le}
 use native.Mathlib.Omega.{arith}
 use lib.Arith.{digits-lt}
 use Rattle.model.specs.declared.Geometry.{Geometry}
 use Rattle.model.specs.Geometry.{Allowed, perBlock, mapBlocks, headerBlocks, deviceLength}
 use Rattle.model.specs.Geometry.{cellStart, headerStart, mapStart, sliceStart, sliceSize, ivStart, blockStart}
 use Rattle.model.specs.Session.{blockCount, slot, sliceOf, offsetOf}
 
 module _ (g : Geometry) (ok : Allowed g) where
   -- ---- numbers
@@ -52,8 +52,21 @@ module _ (g : Geometry) (ok : Allowed g) where
   pub entries-fill : perBlock g * 4 ≡ g .b - 16
   entries-fill = ⊎-elim (λ e. rw e refl) (λ e. rw e refl) (ok .block)
 
+  pub perBlock-least : 1 ≤ perBlock g
+  perBlock-least = omega (arith, b-bounds .0)
+
   pub entries-small : (t : ℕ) → t < mapBlocks g → t * perBlock g ≤ 17 * 1020
   entries-small t l = mul-le-mul {n₂ = 17} {m₂ = 1020} (omega (arith, mapBlocks-small)) (omega (arith, b-bounds .1))
+
+  -- A block that begins within the entries of a volume is one of its map blocks; so is that of any entry.
+  pub mapBlock-lt : (t : ℕ) → t * perBlock g < g .p → t < mapBlocks g
+  unfolding mapBlocks
+  mapBlock-lt t l =
+      let h : (t + 1) * perBlock g ≤ g .p + (perBlock g - 1) = omega (arith, perBlock-least) in
+      omega (arith, le-div-iff-mul-le {k = perBlock g} {x = t + 1} {y = g .p + (perBlock g - 1)} perBlock-least .1 h)
+
+  pub mapBlock-of : (σ : ℕ) → σ < g .p → σ / perBlock g < mapBlocks g
+  mapBlock-of σ l = mapBlock-lt (σ / perBlock g) (omega (arith, div-add-mod' σ (perBlock g)))
 
   -- ---- addresses
 
@@ -95,9 +108,12 @@ module _ (g : Geometry) (ok : Allowed g) where
   unfolding sliceSize
   block-within j l = omega (arith, mul-le-mul-left (g .b) l)
 
+  pub iv-within-slice : (j : ℕ) → j < g .s → 16 * j + 16 ≤ sliceSize g
+  iv-within-slice j l = omega (arith, iv-within j l, block-within j l)
+
   pub iv-fits : (ψ j : ℕ) → ψ < g .p → j < g .s → ivStart g ψ j + 16 ≤ deviceLength g
   unfolding ivStart
-  iv-fits ψ j l h = omega (arith, slice-fits ψ l, iv-within j h, block-within j h)
+  iv-fits ψ j l h = omega (arith, slice-fits ψ l, iv-within-slice j h)
 
   pub block-fits : (ψ j : ℕ) → ψ < g .p → j < g .s → blockStart g ψ j + g .b ≤ deviceLength g
   unfolding blockStart
