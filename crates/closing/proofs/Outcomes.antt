@@ -21,7 +21,7 @@ use Rattle.model.specs.Answers.{closeResult, Leaves}
 use Rattle.model.proofs.Tests.{refuse-none}
 use Rattle.model.proofs.Requests.{Stands, standing-none, standing-stands, short-false}
 use Rattle.model.proofs.Bounds.{mapBlocks-small}
-use Rattle.reading.proofs.Order.{standing-first, unless-refused}
+use Rattle.model.proofs.Order.{standing-first, unless-refused}
 
 -- ---- the tape bytes that a close needs
 

@@ -20,7 +20,7 @@ use Rattle.model.specs.Session.{Held, held, sliceOf, offsetOf, entryOf, short}
 use Rattle.model.specs.Write.{seen, search, firstFree, rewriteOutcome, claimOutcome, writeRefusal, writeModel}
 use Rattle.model.proofs.Tests.{refuse-none}
 use Rattle.model.proofs.Requests.{Stands, standing-none, Asked, asked-none, short-false}
-use Rattle.reading.proofs.Order.{unless-refused}
+use Rattle.model.proofs.Order.{unless-refused}
 use Rattle.deciding.specs.declared.Decision.{Decision}
 use Rattle.deciding.specs.declared.Decision.the-variants.{Refused, Rewrite, Claim}
 use Rattle.deciding.specs.Decided.{Decided}

@@ -1,6 +1,6 @@
 -- Laws of what an opening leaves, by what its steps found. Assumes nothing.
 use Prim.Native.Nat.{ℕ, zero, suc, _+_, _≤_, _<_}
-use mathlib.Core.Path.{_≡_, refl, sym, ap, ap₂, subst, _∙_}
+use mathlib.Core.Path.{_≡_, refl, sym, ap, ap₂, subst}
 use mathlib.Core.List.{List, []}
 use mathlib.Core.Bool.{true}
 use native.Mathlib.Omega.{arith}
@@ -12,10 +12,10 @@ use Rattle.model.specs.Geometry.{cellOf, headerOf}
 use Rattle.model.specs.Opening.{Cell, At, NoCell, openCell, orNext, firstCell, Chain, Keys, Broken, chain, Loaded, Tables, Spoilt, loadMaps, openRefusal}
 use Rattle.model.specs.Opening.{OpenResult, OpenTo, NotOpened, OpenOutcome, noSession, untouched, wiped, withTables, withKeys, withCell, openModel}
 use Rattle.model.specs.Answers.{OpenLeaves}
+use Rattle.model.proofs.Order.{unless-refused}
 use Rattle.opening.specs.declared.Found.{Found}
 use Rattle.opening.specs.declared.Found.the-variants as found
 use Rattle.opening.specs.Steps.{CellFound, ChainOpened}
-use Rattle.opening.proofs.Refusals.{unless-some, unless-none}
 
 -- ---- the cell
 
@@ -80,15 +80,15 @@ unfolding withTables
 withTables-spoilt g k keys e = rw e
 
 module _ (device : List ℕ) (g : Geometry) (key maps owners perm : List ℕ) where
-  pub openModel-refused : {n : ℕ} → n ≡ openRefusal g (length device) (length key) (length maps) (length owners) perm → (n ≡ 0 → ⊥)
+  pub openModel-refused : {n : ℕ} → n ≡ openRefusal g (length device) (length key) (length maps) (length owners) perm → 0 < n
       → openModel device g key maps owners perm ≡ untouched maps owners n
   unfolding openModel
-  openModel-refused e h = unless-some _ (untouched maps owners) _ (λ z. h (e ∙ z)) ∙ ap (untouched maps owners) (sym e)
+  openModel-refused {n} e l = rw (← e) (unless-refused n _ _ l)
 
   pub openModel-served : openRefusal g (length device) (length key) (length maps) (length owners) perm ≡ 0
       → openModel device g key maps owners perm ≡ withCell g (headerOf g device) (firstCell key (cellOf device) 15 0)
   unfolding openModel
-  openModel-served e = unless-none (untouched maps owners) _ e
+  openModel-served e = rw e
 
 -- ---- what is left
 

@@ -1,59 +1,36 @@
 -- Laws of refused openings: a refusal's number is not 0, and the rows 1 to 5 as their tests find them. Assumes nothing.
-use Prim.Native.Nat.{ℕ, zero, suc, _*_}
-use mathlib.Core.Path.{_≡_, refl, sym, ap, _∙_}
+use Prim.Native.Nat.{ℕ, _*_, _<_}
+use mathlib.Core.Path.{_≡_, sym, ap, _∙_}
 use mathlib.Core.List.{List}
-use mathlib.Core.Bool.{Bool, true, false}
+use mathlib.Core.Bool.{true, false}
 use native.Mathlib.Omega.{arith}
 use borrow.Author.Tests.{eq-eqb, ne-eqb}
 use lib.ListN.{length}
 use Rattle.refusals.specs.declared.Refusal.{Refusal}
 use Rattle.refusals.specs.declared.Answer.{Answer}
 use Rattle.refusals.specs.declared.Answer.the-variants.{Served, Refused}
-use Rattle.refusals.specs.Numbers.{refusalNumber, answerNumber, refuse}
-use Rattle.refusals.proofs.Positive.{refusal-positive}
+use Rattle.refusals.specs.Numbers.{answerNumber, refuse}
+use Rattle.refusals.proofs.Positive.{answer-positive}
 use Rattle.model.specs.declared.Geometry.{Geometry}
 use Rattle.model.specs.Geometry.{Allowed, badGeometry, deviceLength}
-use Rattle.model.specs.Session.{unless}
 use Rattle.model.specs.Opening.{missing, openRefusal}
 use Rattle.model.proofs.Tests.{badGeometry-allowed}
+use Rattle.model.proofs.Order.{badGeometry-first}
 
 -- ---- numbers
 
-refusal-nonzero : (r : Refusal) → refusalNumber r ≡ 0 → ⊥
-refusal-nonzero r e = omega (arith, refusal-positive r)
-
 pub answer-refused : {a : Answer} {r : Refusal} → a ≡ Refused r → answerNumber a ≡ 0 → ⊥
-answer-refused {a} {r} e z = refusal-nonzero r (sym (ap answerNumber e) ∙ z)
+answer-refused e z = omega (arith, answer-positive e)
 
 pub answer-served : {a : Answer} → a ≡ Served → answerNumber a ≡ 0
 answer-served e = ap answerNumber e
 
-pub unless-some : {A : Type 0} (n : ℕ) (f : ℕ → A) (x : A) → (n ≡ 0 → ⊥) → unless n f x ≡ f n
-unless-some zero f x h = absurd (h refl)
-unless-some (suc n) f x h = refl
-
-pub unless-none : {A : Type 0} {n : ℕ} (f : ℕ → A) (x : A) → n ≡ 0 → unless n f x ≡ x
-unless-none f x e = rw e
-
--- ---- a bad geometry
-
-refuse-again : (b : Bool) (n : ℕ) {r s : ℕ} → ((r ≡ 0 → ⊥) → r ≡ s) → (refuse b n r ≡ 0 → ⊥) → refuse b n r ≡ refuse b n s
-unfolding refuse
-refuse-again true n h ne = refl
-refuse-again false n h ne = h ne
-
--- Refused for its geometry, whatever follows.
-badGeometry-some : (n : ℕ) (g : Geometry) (rest : ℕ) → (badGeometry n g 0 ≡ 0 → ⊥) → badGeometry n g 0 ≡ badGeometry n g rest
-unfolding badGeometry
-badGeometry-some n g rest =
-    refuse-again _ n (refuse-again _ n (refuse-again _ n (refuse-again _ n (refuse-again _ n (λ h. absurd (h refl))))))
-
--- ---- 2 to 5
+-- ---- 1 to 5
 
 module _ (g : Geometry) (device key maps owners : ℕ) (perm : List ℕ) where
-  pub wrong-geometry : (badGeometry 1 g 0 ≡ 0 → ⊥) → badGeometry 1 g 0 ≡ openRefusal g device key maps owners perm
+  pub wrong-geometry : 0 < badGeometry 1 g 0 → badGeometry 1 g 0 ≡ openRefusal g device key maps owners perm
   unfolding openRefusal
-  wrong-geometry = badGeometry-some 1 g _
+  wrong-geometry l = sym (badGeometry-first 1 g l _)
 
   module _ (ok : Allowed g) where
     pub wrong-device : (device ≡ deviceLength g → ⊥) → 2 ≡ openRefusal g device key maps owners perm

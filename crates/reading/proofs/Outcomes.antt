@@ -14,7 +14,7 @@ use Rattle.model.specs.Session.{slot, sliceOf, offsetOf, entryOf}
 use Rattle.model.specs.Read.{deciphered, blockOf, readRefusal, Filled, Refused, readModel, findModel}
 use Rattle.model.proofs.Requests.{Stands, standing-none, Asked, asked-none}
 use Rattle.model.proofs.Bounds.{slot-lt, sliceOf-lt}
-use Rattle.reading.proofs.Order.{unless-refused}
+use Rattle.model.proofs.Order.{unless-refused}
 
 -- ---- requests that are not refused
 

@@ -1,7 +1,10 @@
 -- No refusal has the number 0, which stands for served. Assumes nothing.
-use Prim.Native.Nat.{ℕ, _<_}
+use Prim.Native.Nat.{_<_}
+use mathlib.Core.Path.{_≡_}
 use native.Mathlib.Omega.{arith}
-use Rattle.refusals.specs.Numbers.{refusalNumber}
+use Rattle.refusals.specs.Numbers.{refusalNumber, answerNumber}
+use Rattle.refusals.specs.declared.Answer.{Answer}
+use Rattle.refusals.specs.declared.Answer.the-variants.{Refused}
 use Rattle.refusals.specs.declared.Refusal.{Refusal}
 use Rattle.refusals.specs.declared.Refusal.the-variants.{BadGeometry, DeviceLength, KeyLength, TableLength, BadPermutation, NoCell, HeaderTag, HeaderGeometry, BadEntry, SliceTwice, VolumeAbove, AddressAbove, WrongLength, MalformedLine, TagDiffers, NotOpen, TapeShort, NoFreeSlice}
 
@@ -24,3 +27,7 @@ refusal-positive TagDiffers = omega arith
 refusal-positive NotOpen = omega arith
 refusal-positive TapeShort = omega arith
 refusal-positive NoFreeSlice = omega arith
+
+-- Nor has an answer that refuses.
+pub answer-positive : {a : Answer} {r : Refusal} → a ≡ Refused r → 0 < answerNumber a
+answer-positive {r = r} e = rw e (refusal-positive r)

@@ -17,7 +17,7 @@ use Rattle.model.specs.Geometry.{Allowed, badGeometry, deviceLength}
 use Rattle.model.specs.Session.{Held, held, standing, idle, slot, sliceOf, offsetOf}
 use Rattle.model.specs.Write.{Refused, rewritten, claimed, writeRefusal, writeModel}
 use Rattle.model.proofs.Tests.{badGeometry-allowed}
-use Rattle.reading.proofs.Order.{badGeometry-first}
+use Rattle.model.proofs.Order.{badGeometry-first}
 use Rattle.deciding.proofs.Outcomes.{refused-first}
 use Rattle.walk.specs.declared.Walk.{Walk}
 use Rattle.walk.specs.declared.WalkAnswer.{WalkAnswer}

@@ -17,7 +17,7 @@ use Rattle.model.specs.Geometry.{badGeometry}
 use Rattle.model.specs.Session.{geometry, unmapped}
 use Rattle.model.specs.Opening.{missing}
 use Rattle.model.proofs.Parts.{take-replicate}
-use Rattle.reading.proofs.Order.{unless-refused}
+use Rattle.model.proofs.Order.{unless-refused}
 use Rattle.walk.specs.declared.Walk.{Walk}
 use Rattle.walk.specs.declared.WalkAnswer.{WalkAnswer}
 use Rattle.walk.specs.declared.WalkAnswer.the-variants.{Refused}

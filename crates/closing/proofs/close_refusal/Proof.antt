@@ -6,10 +6,10 @@ use native.Mathlib.Omega.{arith}
 use lib.ListN.{length}
 use borrow.Author.Needs.{needs}
 use Rattle.refusals.specs.Numbers.{answerNumber}
+use Rattle.refusals.proofs.Positive.{answer-positive}
 use Rattle.model.specs.Session.{held, short}
 use Rattle.model.specs.Close.{closeNeed}
 use Rattle.model.proofs.Requests.{Stands, standing-none}
-use Rattle.reading.proofs.Order.{answer-positive}
 use Rattle.closing.proofs.Outcomes.{closeNeed-small, closeRefusal-first, closeRefusal-bad, closeRefusal-short, closeRefusal-served}
 use Rattle.closing.proofs.close_refusal.Statement.{statement}
 use Rattle.closing.proofs.close_refusal.Tie as tie

@@ -4,9 +4,10 @@ use lib.ListN.{length}
 use borrow.Author.Needs.{needs}
 use borrow.Author.Tests.{eq-eqb, ne-eqb}
 use Rattle.refusals.specs.Numbers.{refuse, answerNumber}
+use Rattle.refusals.proofs.Positive.{answer-positive}
 use Rattle.model.specs.Write.{writeRefusal}
 use Rattle.model.proofs.Requests.{Stands, standing-none, standing-stands}
-use Rattle.reading.proofs.Order.{answer-positive, standing-first}
+use Rattle.model.proofs.Order.{standing-first}
 use Rattle.deciding.proofs.write_refusal.Statement.{statement}
 use Rattle.deciding.proofs.write_refusal.Tie as tie
 

@@ -4,11 +4,12 @@ use Prim.Native.Nat.{ℕ}
 use borrow.Author.Needs.{needs}
 use lib.ListN.{length, replicate}
 use Rattle.refusals.specs.Numbers.{answerNumber}
+use Rattle.refusals.proofs.Positive.{answer-positive}
 use Rattle.model.specs.Session.{unmapped}
 use Rattle.model.specs.Opening.{NotOpened}
 use Rattle.model.specs.Answers.{openResult}
 use Rattle.model.proofs.Requests.{Handed, openRefusal-none}
-use Rattle.opening.proofs.Refusals.{answer-refused, answer-served}
+use Rattle.opening.proofs.Refusals.{answer-served}
 use Rattle.opening.proofs.Outcomes.{openModel-refused, openModel-served, leaves-refused, leaves-by}
 use Rattle.opening.proofs.open.Statement.{statement}
 use Rattle.opening.proofs.open.Tie as tie
@@ -30,7 +31,7 @@ returns c =
     let maps = a .maps .now in
     let owners = a .owners .now in
     leaves-refused maps owners (answerNumber (tested .result))
-    (openModel-refused (a .device .now) (a .g) (a .key .now) maps owners (a .perm .now) (tested .ensures) (answer-refused bad))
+    (openModel-refused (a .device .now) (a .g) (a .key .now) maps owners (a .perm .now) (tested .ensures) (answer-positive bad))
     (ap openResult (c .refused .ensures .0) ∙ sym (ap (λ x. NotOpened (answerNumber x)) bad))
     refl
     refl

@@ -2,9 +2,10 @@
 use mathlib.Core.Path.{sym, _∙_}
 use native.Mathlib.Omega.{arith}
 use borrow.Author.Needs.{needs}
+use Rattle.refusals.proofs.Positive.{answer-positive}
 use Rattle.model.specs.Geometry.{Allowed}
 use Rattle.model.proofs.Tests.{badGeometry-none}
-use Rattle.opening.proofs.Refusals.{answer-refused, answer-served}
+use Rattle.opening.proofs.Refusals.{answer-served}
 use Rattle.opening.proofs.Refusals.{wrong-geometry, wrong-device, wrong-key, wrong-maps, wrong-owners, wrong-places, slice-missing, none-missing}
 use Rattle.opening.proofs.open_refusal.Statement.{statement}
 use Rattle.opening.proofs.open_refusal.Tie as tie
@@ -16,7 +17,7 @@ allowed c = badGeometry-none 0 _ 0 (sym (c .before .before .check-geometry .ensu
 returns : tie.Need-returns
 returns c =
     let e = c .before .before .check-geometry .ensures in
-    e ∙ wrong-geometry _ _ _ _ _ _ (λ z. answer-refused (c .enum-told .given .1) (e ∙ z))
+    e ∙ wrong-geometry _ _ _ _ _ _ (rw e at (answer-positive (c .enum-told .given .1)))
 
 returns-2 : tie.Need-returns-2
 returns-2 c = wrong-device _ _ _ _ _ _ (allowed (c .before .before)) (λ e. c .if1 .taken (e ∙ sym (c .before .device-length .ensures)))

@@ -7,10 +7,11 @@ use lib.Dec.{eqb}
 use borrow.Author.Needs.{needs}
 use borrow.Author.Tests.{lt-ltb, le-ltb, eq-eqb, ne-eqb}
 use Rattle.refusals.specs.Numbers.{refuse, answerNumber}
+use Rattle.refusals.proofs.Positive.{answer-positive}
 use Rattle.model.specs.Geometry.{Allowed, badGeometry}
 use Rattle.model.specs.Session.{standing}
 use Rattle.model.proofs.Tests.{badGeometry-none, badGeometry-allowed}
-use Rattle.reading.proofs.Order.{badGeometry-first, answer-positive}
+use Rattle.model.proofs.Order.{badGeometry-first}
 use Rattle.reading.proofs.check_standing.Statement.{statement}
 use Rattle.reading.proofs.check_standing.Tie as tie
 

@@ -5,12 +5,12 @@ use native.Mathlib.Omega.{arith}
 use borrow.Author.Needs.{needs}
 use lib.ListN.{length}
 use Rattle.refusals.specs.Numbers.{answerNumber}
+use Rattle.refusals.proofs.Positive.{answer-positive}
 use Rattle.model.specs.Geometry.{blockStart}
 use Rattle.model.specs.Session.{offsetOf}
 use Rattle.model.specs.Read.{readRefusal}
 use Rattle.model.proofs.Parts.{part-lent}
 use Rattle.model.proofs.Bounds.{offsetOf-lt, block-fits}
-use Rattle.reading.proofs.Order.{answer-positive}
 use Rattle.reading.proofs.Outcomes.{asked-slot, Ready, readRefusal-none, find-refused, find-mapped, find-unmapped}
 use Rattle.reading.proofs.find.Statement.{statement}
 use Rattle.reading.proofs.find.Tie as tie

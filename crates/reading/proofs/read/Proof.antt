@@ -6,11 +6,11 @@ use native.Mathlib.Omega.{arith}
 use borrow.Author.Needs.{needs}
 use lib.ListN.{length}
 use Rattle.refusals.specs.Numbers.{answerNumber}
+use Rattle.refusals.proofs.Positive.{answer-positive}
 use Rattle.model.specs.Session.{offsetOf}
 use Rattle.model.specs.Read.{deciphered, readRefusal}
 use Rattle.model.proofs.Parts.{part-lent}
 use Rattle.model.proofs.Bounds.{offsetOf-lt}
-use Rattle.reading.proofs.Order.{answer-positive}
 use Rattle.reading.proofs.Outcomes.{asked-slot, Ready, readRefusal-none, read-refused, read-served}
 use Rattle.reading.proofs.read.Statement.{statement}
 use Rattle.reading.proofs.read.Tie as tie

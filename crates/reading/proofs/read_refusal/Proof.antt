@@ -3,9 +3,10 @@ use mathlib.Core.Path.{sym, ap, _∙_}
 use borrow.Author.Needs.{needs}
 use lib.ListN.{length}
 use Rattle.refusals.specs.Numbers.{answerNumber}
+use Rattle.refusals.proofs.Positive.{answer-positive}
 use Rattle.model.specs.Read.{readRefusal}
 use Rattle.model.proofs.Requests.{Stands, standing-none, standing-stands}
-use Rattle.reading.proofs.Order.{answer-positive, standing-first}
+use Rattle.model.proofs.Order.{standing-first}
 use Rattle.reading.proofs.read_refusal.Statement.{statement}
 use Rattle.reading.proofs.read_refusal.Tie as tie
 

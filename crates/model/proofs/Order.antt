@@ -3,17 +3,11 @@ use Prim.Native.Nat.{ℕ, zero, suc, _<_}
 use mathlib.Core.Path.{_≡_, refl}
 use mathlib.Core.Bool.{Bool, true, false}
 use native.Mathlib.Omega.{arith}
-use Rattle.refusals.specs.declared.Answer.{Answer}
-use Rattle.refusals.specs.declared.Answer.the-variants.{Refused}
-use Rattle.refusals.specs.declared.Refusal.{Refusal}
-use Rattle.refusals.specs.Numbers.{refuse, answerNumber}
-use Rattle.refusals.proofs.Positive.{refusal-positive}
+use Rattle.refusals.specs.Numbers.{refuse}
 use Rattle.model.specs.declared.Geometry.{Geometry}
 use Rattle.model.specs.declared.Session.{Session}
 use Rattle.model.specs.Geometry.{badGeometry}
 use Rattle.model.specs.Session.{standing, unless}
-
--- ---- chains of refusals
 
 -- A chain that refuses before its rest is reached says the same for every rest.
 abbrev Stands-first : (ℕ → ℕ) → Type 0
@@ -45,12 +39,6 @@ standing-first device maps owners s =
     (refuse-first _ 2 _
     (refuse-first _ 4 _
     (refuse-first _ 4 (λ rest. rest) rest-first)))))
-
--- ---- answers
-
--- The number of an answer that refuses.
-pub answer-positive : {a : Answer} {r : Refusal} → a ≡ Refused r → 0 < answerNumber a
-answer-positive {r = r} e = rw e (refusal-positive r)
 
 -- What a refusal gives.
 pub unless-refused : {A : Type 0} (n : ℕ) (refusal : ℕ → A) (served : A) → 0 < n → unless n refusal served ≡ refusal n
