@@ -15,11 +15,9 @@ use Rattle.model.specs.declared.Geometry.{Geometry}
 use Rattle.model.specs.Geometry.{Allowed, mapBlocks}
 use Rattle.model.specs.Parts.{patched}
 use Rattle.model.specs.Session.{Held, geometry, standing, short}
-use Rattle.model.specs.Conditions.{Enough}
 use Rattle.model.specs.Close.{CloseResult, anyBad, closeNeed, closeRefusal, closed, closeModel}
 use Rattle.model.specs.Answers.{closeResult, Leaves}
-use Rattle.model.proofs.Tests.{refuse-none}
-use Rattle.model.proofs.Requests.{Stands, standing-none, standing-stands, short-false}
+use Rattle.model.proofs.Requests.{Stands, standing-stands}
 use Rattle.model.proofs.Bounds.{mapBlocks-small}
 use Rattle.model.proofs.Order.{standing-first, unless-refused}
 
@@ -57,19 +55,6 @@ module _ (device : ℕ) (h : Held) (tape : ℕ) where
     pub closeRefusal-served : Bad ≡ false → Short ≡ false → 0 ≡ closeRefusal device h tape
     unfolding closeRefusal refuse
     closeRefusal-served good enough = sym (standing-stands device _ _ (h .session) _ stands ∙ rw (good, enough) refl)
-
-  -- A close that is not refused.
-  pub record Closable : Type 0 where
-    pub stands : Stands device (length (h .maps)) (length (h .owners)) (h .session)
-    pub enough : Enough tape (h .position) (closeNeed (h .session))
-
-  pub closeRefusal-none : closeRefusal device h tape ≡ 0 → Closable
-  unfolding closeRefusal
-  closeRefusal-none e =
-      let p1 = standing-none _ _ _ _ _ e in
-      let p2 = refuse-none _ _ _ (p1 .1) in
-      let p3 = refuse-none _ _ _ (p2 .1) in
-      record { stands = p1 .0; enough = short-false _ _ _ (p3 .0) }
 
 -- ---- outcomes
 

@@ -7,7 +7,7 @@ use native.Mathlib.Nat.{sub-zero}
 use native.Mathlib.Omega.{arith}
 use lib.Dec.{ltb, eqb}
 use lib.ListN.{length, drop, getD}
-use borrow.Author.Tests.{lt-ltb, le-ltb, ltb-true, eqb-true, not-false}
+use borrow.Author.Tests.{lt-ltb, le-ltb, ltb-true}
 use Rattle.refusals.specs.Numbers.{refusalNumber}
 use Rattle.refusals.specs.declared.Refusal.{Refusal}
 use Rattle.refusals.specs.declared.Refusal.the-variants.{TapeShort, BadPermutation, NoFreeSlice}
@@ -18,8 +18,7 @@ use Rattle.model.specs.declared.Search.{Search}
 use Rattle.model.specs.declared.Search.the-variants.{Free, Bad, Full}
 use Rattle.model.specs.Session.{Held, held, sliceOf, offsetOf, entryOf, short}
 use Rattle.model.specs.Write.{seen, search, firstFree, rewriteOutcome, claimOutcome, writeRefusal, writeModel}
-use Rattle.model.proofs.Tests.{refuse-none}
-use Rattle.model.proofs.Requests.{Stands, standing-none, Asked, asked-none, short-false}
+use Rattle.model.proofs.Requests.{Writable, short-false}
 use Rattle.model.proofs.Order.{unless-refused}
 use Rattle.deciding.specs.declared.Decision.{Decision}
 use Rattle.deciding.specs.declared.Decision.the-variants.{Refused, Rewrite, Claim}
@@ -63,23 +62,6 @@ module _ (owners : List ℕ) (p start : ℕ) (perm : List ℕ) where
   pub firstFree-bad : (q : ℕ) → firstFree owners p start perm ≡ Bad q → q < start + length (drop start perm)
   unfolding firstFree
   firstFree-bad q e = search-bad owners p start (drop start perm) q e
-
--- ---- refusals before the search and the tape
-
--- A write that none of them applies to.
-pub record Writable (device : ℕ) (maps owners : List ℕ) (s : Session) (i a len perm : ℕ) : Type 0 where
-  pub none : writeRefusal device maps owners s i a len perm ≡ 0
-  pub stands : Stands device (length maps) (length owners) s
-  pub places : perm ≡ s .geometry .p
-  pub asked : Asked maps s i a len
-
-pub writeRefusal-none : (device : ℕ) (maps owners : List ℕ) (s : Session) (i a len perm : ℕ) → writeRefusal device maps owners s i a len perm ≡ 0
-    → Writable device maps owners s i a len perm
-unfolding writeRefusal
-writeRefusal-none device maps owners s i a len perm e =
-    let p = standing-none _ _ _ _ _ e in
-    let q = refuse-none _ _ _ (p .1) in
-    record { none = e; stands = p .0; places = eqb-true _ _ (not-false _ (q .0)); asked = asked-none _ _ _ _ _ (q .1) }
 
 -- ---- the decision
 

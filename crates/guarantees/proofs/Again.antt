@@ -23,7 +23,7 @@ use Rattle.guarantees.specs.Arrays.{Arrays}
 use Rattle.guarantees.specs.Points.{Handed, Lent, opens, begin, Reopens}
 use Rattle.model.proofs.Parts.{part-part}
 use Rattle.model.proofs.Bounds.{b-bounds, sliceOf-lt}
-use Rattle.guarantees.proofs.Reflects.{below}
+use Rattle.model.proofs.Tests.{below}
 use Rattle.guarantees.proofs.Patches.{patched-length}
 use Rattle.guarantees.proofs.Places.{Apart, slice-first}
 use Rattle.guarantees.proofs.Sound.{tableEntry}

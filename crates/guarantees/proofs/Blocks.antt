@@ -20,7 +20,7 @@ use Rattle.model.specs.Read.{deciphered}
 use Rattle.model.specs.Write.{claimedBytes}
 use Rattle.model.proofs.Parts.{overlay-length, overlay-within, overlay-whole, part-left, part-right, joined-length, joined-part}
 use Rattle.model.proofs.Bounds.{slice-fits, iv-within, block-within, iv-within-slice, iv-fits, block-fits}
-use Rattle.guarantees.proofs.Reflects.{below}
+use Rattle.model.proofs.Tests.{below}
 use Rattle.guarantees.proofs.Places.{Apart, overlay-apart, apart, iv-iv, iv-block, block-iv, block-block}
 
 -- ---- addresses

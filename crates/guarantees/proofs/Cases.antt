@@ -1,24 +1,23 @@
 -- What a call may come to: one case analysis for each call, cited by every theorem on runs. Assumes nothing.
-use Prim.Native.Nat.{ℕ, zero, suc, _+_, _-_, _*_, _≤_, _<_}
+use Prim.Native.Nat.{ℕ, zero, suc, _-_, _<_}
 use mathlib.Core.Path.{_≡_, refl}
-use mathlib.Core.List.{List, _∷_, _++_}
+use mathlib.Core.List.{List}
 use mathlib.Core.Logic.{⊎-elim}
 use native.Mathlib.Omega.{arith}
 use lib.ListN.{length, getD}
 use Rattle.model.specs.declared.Search.{Search}
 use Rattle.model.specs.declared.Search.the-variants.{Free, Bad, Full}
-use Rattle.model.specs.Geometry.{deviceLength}
-use Rattle.model.specs.Session.{Held, Outcome, geometry, blockCount, sliceOf, offsetOf, unmapped, standing, asked, unless, idle}
+use Rattle.model.specs.Session.{Held, Outcome, geometry, sliceOf, offsetOf, unmapped, unless, idle}
 use Rattle.model.specs.Read.{readRefusal}
 use Rattle.model.specs.Write.{firstFree, startPlace, probesTo, WriteResult, rewritten, claimed, claimOutcome, writeRefusal, writeModel}
 use Rattle.model.specs.Close.{closeNeed, closeRefusal, CloseResult, closed, closeModel}
-use Rattle.model.specs.Conditions.{Usable, TablesFit, EntryFits, Enough}
-use Rattle.guarantees.specs.Rules.{Rule, rule, sliceAt, AllHeld, FirstFree, FirstBad, standingRules, askedRules}
+use Rattle.model.specs.Conditions.{Enough}
+use Rattle.model.proofs.Requests as requests
+use Rattle.guarantees.specs.Rules.{sliceAt, AllHeld, FirstFree, FirstBad, askedRules}
 use Rattle.guarantees.specs.Arrays.{heldEntry}
-use Rattle.guarantees.proofs.Reflects.{ltb-reflects, ltb-refutes, leb-refutes, choose-reflects, choose-refutes}
-use Rattle.guarantees.proofs.Chains.{refuse-guards, guards-none, None, leads-zero}
-use Rattle.guarantees.proofs.Orders.{differ-guards, usable-guards, tables-guards, badEntry-refutes, short-refutes, anyBad-refutes}
-use Rattle.guarantees.proofs.Orders.{read-leads, earlyRules}
+use Rattle.guarantees.proofs.Reflects.{ltb-reflects, choose-reflects, choose-refutes}
+use Rattle.guarantees.proofs.Chains.{None}
+use Rattle.guarantees.proofs.Orders.{short-refutes, earlyRules}
 use Rattle.guarantees.proofs.Search.{Finds, firstFree-finds}
 
 -- The two ends of a chain of refusals.
@@ -29,85 +28,37 @@ unless-cases P (suc n) refusal served refused-case served-case = refused-case n 
 
 -- ---- a session that stands, on a device of n bytes
 
-abbrev standingOf : (n : ℕ) → Held → (rest : ℕ) → ℕ
-standingOf n h rest = standing n (length (h .maps)) (length (h .owners)) (h .session) rest
-
-pub record Stands (n : ℕ) (h : Held) : Type 0 where
-  pub usable : Usable (h .session)
-  pub long : n ≡ deviceLength (geometry h)
-  pub tables : TablesFit (geometry h) (length (h .maps)) (length (h .owners))
-
-module _ (n : ℕ) (h : Held) where
-  standing-none : (rest : ℕ) → standingOf n h rest ≡ 0 → Stands n h × (rest ≡ 0)
-  unfolding standing
-  standing-none rest e =
-      let usable = guards-none (usable-guards (h .session)) _ e in
-      let long = guards-none (differ-guards 2 n (deviceLength (geometry h))) _ (usable .1) in
-      let tables = guards-none (tables-guards (geometry h) (length (h .maps)) (length (h .owners))) rest (long .1) in
-      (record { usable = usable .0; long = long .0; tables = tables .0 }, tables .1)
-
-  -- No rule on the session, the device and the tables holds.
-  stands-passes : Stands n h → (rs : List Rule) → None rs → None (standingRules n (length (h .maps)) (length (h .owners)) (h .session) ++ rs)
-  stands-passes s rs k = (λ f. f (s .usable), (λ f. f (s .long), (λ f. f (s .tables), k)))
+abbrev pub Stands : (n : ℕ) → Held → Type 0
+Stands n h = requests.Stands n (length (h .maps)) (length (h .owners)) (h .session)
 
 -- ---- an address that is served
 
-abbrev askedOf : Held → (i a len : ℕ) → ℕ
-askedOf h i a len = asked (h .maps) (h .session) i a len
+abbrev pub Asked : Held → (i a len : ℕ) → Type 0
+Asked h i a len = requests.Asked (h .maps) (h .session) i a len
+
+abbrev pub Ready : (n : ℕ) → Held → (i a len : ℕ) → Type 0
+Ready n h i a len = requests.Ready n (h .maps) (h .owners) (h .session) i a len
 
 abbrev pub readRefusalOf : (n : ℕ) → Held → (i a room : ℕ) → ℕ
 readRefusalOf n h i a room = readRefusal n (h .maps) (h .owners) (h .session) i a room
-
-pub record Asked (h : Held) (i a len : ℕ) : Type 0 where
-  pub volume : i ≤ h .session .k
-  pub address : a < blockCount (geometry h) i
-  pub size : len ≡ geometry h .b
-  pub mapped : EntryFits (geometry h) (heldEntry h i a)
-
-module _ (h : Held) (i a len : ℕ) where
-  asked-none : askedOf h i a len ≡ 0 → Asked h i a len
-  unfolding asked
-  asked-none e =
-      let volume = guards-none (refuse-guards 11 (ltb-refutes (h .session .k) i)) _ e in
-      let address = guards-none (refuse-guards 12 (leb-refutes (blockCount (geometry h) i) a)) _ (volume .1) in
-      let size = guards-none (differ-guards 13 len (geometry h .b)) _ (address .1) in
-      let mapped = guards-none (refuse-guards 9 (badEntry-refutes (geometry h) (heldEntry h i a))) 0 (size .1) in
-      record { volume = volume .0; address = address .0; size = size .0; mapped = mapped .0 }
-
-  asked-passes : Asked h i a len → None (askedRules (h .maps) (h .session) i a len)
-  asked-passes q = (λ l. omega (arith, q .volume), (λ l. omega (arith, q .address), (λ f. f (q .size), (λ f. f (q .mapped), tt))))
-
-  pub readRefusal-none : (n : ℕ) → readRefusalOf n h i a len ≡ 0 → Stands n h × Asked h i a len
-  unfolding readRefusal
-  readRefusal-none n e = let s = standing-none n h _ e in (s .0, asked-none (s .1))
-
-  pub readRefusal-served : (n : ℕ) → Stands n h → Asked h i a len → readRefusalOf n h i a len ≡ 0
-  readRefusal-served n s q =
-      leads-zero (read-leads n (h .maps) (h .owners) (h .session) i a len)
-      (stands-passes n h s (askedRules (h .maps) (h .session) i a len) (asked-passes q))
 
 -- ---- a write: refused, a block stored anew, or a slice claimed
 
 abbrev pub writeRefusalOf : (n : ℕ) → Held → (i a len perm : ℕ) → ℕ
 writeRefusalOf n h i a len perm = writeRefusal n (h .maps) (h .owners) (h .session) i a len perm
 
-pub record Writable (n : ℕ) (h : Held) (i a : ℕ) (text perm : List ℕ) : Type 0 where
-  pub stands : Stands n h
-  pub asked : Asked h i a (length text)
-  pub places : length perm ≡ geometry h .p
+abbrev pub Writable : (n : ℕ) → Held → (i a : ℕ) → (text perm : List ℕ) → Type 0
+Writable n h i a text perm = requests.Writable n (h .maps) (h .owners) (h .session) i a (length text) (length perm)
 
-module _ (n : ℕ) (h : Held) (i a : ℕ) (text perm : List ℕ) where
-  writeRefusal-none : writeRefusalOf n h i a (length text) (length perm) ≡ 0 → Writable n h i a text perm
-  unfolding writeRefusal
-  writeRefusal-none e =
-      let s = standing-none n h _ e in
-      let p = guards-none (differ-guards 5 (length perm) (geometry h .p)) _ (s .1) in
-      record { stands = s .0; asked = asked-none h i a (length text) (p .1); places = p .0 }
-
-  pub writable-passes : Writable n h i a text perm → None (earlyRules n h i a (length text) (length perm))
-  writable-passes w =
-      stands-passes n h (w .stands) (rule 5 (length perm ≡ geometry h .p → ⊥) ∷ askedRules (h .maps) (h .session) i a (length text))
-      (λ f. f (w .places), asked-passes h i a (length text) (w .asked))
+-- No rule before the entry is looked up holds.
+pub writable-passes : (n : ℕ) (h : Held) (i a : ℕ) (text perm : List ℕ) → Writable n h i a text perm
+    → None (earlyRules n h i a (length text) (length perm))
+writable-passes n h i a text perm w =
+    let s = w .stands in
+    let q = w .asked in
+    let asks : None (askedRules (h .maps) (h .session) i a (length text)) =
+    (λ l. omega (arith, q .volume), (λ l. omega (arith, q .address), (λ f. f (q .size), (λ f. f (q .mapped), tt)))) in
+    (λ f. f (s .usable), (λ f. f (s .long), (λ f. f (s .tables), (λ f. f (w .places), asks))))
 
 module _ (n : ℕ) (h : Held) (i a : ℕ) (text perm tape : List ℕ) where
   abbrev σ : ℕ
@@ -146,7 +97,7 @@ module _ (n : ℕ) (h : Held) (i a : ℕ) (text perm tape : List ℕ) where
   unfolding writeModel
   write-cases P unfit re-short re bad full cl-short cl =
       unless-cases P _ _ _ unfit
-      (λ e. let w = writeRefusal-none n h i a text perm e in
+      (λ e. let w = requests.writeRefusal-none n (h .maps) (h .owners) (h .session) i a (length text) (length perm) e in
       choose-reflects P _ _ (ltb-reflects ψ₀ (geometry h .p))
       (λ l. choose-refutes P _ _ (short-refutes (length tape) (h .position) 16) (re-short w l) (re w l))
       (λ out. claims w (⊎-elim (λ u. u) (λ l. absurd (out l)) (w .asked .mapped)) search-of
@@ -179,9 +130,6 @@ pub close-cases : (n : ℕ) (h : Held) (tape : List ℕ) (P : Outcome CloseResul
     → ((r : ℕ) → closeRefusal n h (length tape) ≡ suc r → P (idle h (CloseResult.Refused (suc r))))
     → (Stands n h → Enough (length tape) (h .position) (closeNeed (h .session)) → P (closed h tape))
     → P (closeModel n h tape)
-unfolding closeModel closeRefusal
+unfolding closeModel
 close-cases n h tape P refused done =
-    unless-cases P _ _ _ refused
-    (λ e. let s = standing-none n h _ e in
-    let maps = guards-none (refuse-guards 9 (anyBad-refutes (geometry h) (h .maps) ((h .session .k + 1) * geometry h .p))) _ (s .1) in
-    done (s .0) (guards-none (refuse-guards 21 (short-refutes (length tape) (h .position) (closeNeed (h .session)))) 0 (maps .1) .0))
+    unless-cases P _ _ _ refused (λ e. let c = requests.closeRefusal-none n h (length tape) e in done (c .stands) (c .enough))

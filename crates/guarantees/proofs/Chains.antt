@@ -1,10 +1,9 @@
 -- Chains of tests: the number that a chain gives is that of the first rule that holds. Assumes nothing.
-use Prim.Native.Nat.{ℕ, suc}
-use mathlib.Core.Path.{_≡_, refl, sym, ap, _∙_}
+use Prim.Native.Nat.{ℕ}
+use mathlib.Core.Path.{_≡_, refl, ap, _∙_}
 use mathlib.Core.Logic.{inl, inr}
 use mathlib.Core.Bool.{Bool, true, false, _||_}
 use mathlib.Core.List.{List, [], _∷_, _++_}
-use native.Mathlib.Omega.{arith}
 use Rattle.refusals.specs.Numbers.{refuse}
 use Rattle.guarantees.specs.Rules.{Rule, rule, First}
 use Rattle.guarantees.proofs.Reflects.{Reflects, holds, fails, Refutes, passes, refutes, refutes-map, or-refutes}
@@ -71,15 +70,6 @@ guards-both {u} {n} g k =
       decides = or-refutes (g .decides) (k .decides);
       refuses = λ rest. g .refuses (u rest) ∙ ap (refuse (g .test) n) (k .refuses rest) ∙ refuse-or (g .test) (k .test) n rest;
     }
-
--- Nothing is refused: the condition holds, and nothing that follows refuses.
-pub guards-none : {t : ℕ → ℕ} {n : ℕ} {P : Type 0} → Guards t (suc n) P → (rest : ℕ) → t rest ≡ 0 → P × (rest ≡ 0)
-unfolding refuse
-guards-none {n} {P} g rest e = go (g .decides) (sym (g .refuses rest) ∙ e)
-  where
-    go : {b : Bool} → Refutes P b → refuse b (suc n) rest ≡ 0 → P × (rest ≡ 0)
-    go (passes p) q = (p, q)
-    go (refutes f) q = absurd (omega arith)
 
 -- One row of a chain is one rule of the list.
 pub leads-refuse : {A : Type 0} {b : Bool} {rest : ℕ} {rs : List Rule} (n : ℕ) → Reflects A b → Leads rs rest 0

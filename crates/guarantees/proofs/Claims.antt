@@ -9,7 +9,7 @@ use lib.Seq.{getD-set-same, getD-set-other}
 use lib.Arith.{digits-lt}
 use Rattle.model.specs.Session.{Held, geometry, slot}
 use Rattle.model.specs.Write.{claimed}
-use Rattle.guarantees.proofs.Reflects.{equal}
+use Rattle.model.proofs.Tests.{equal}
 use Rattle.guarantees.proofs.Sound.{Sound, OpenVolume, tableEntry}
 use Rattle.guarantees.proofs.Blocks.{same-slot}
 use Rattle.guarantees.proofs.Cases.{Stands}

@@ -17,12 +17,14 @@ use Rattle.model.specs.Opening.{Cell, At, NoCell, openCell, orNext, firstCell, 
 use Rattle.model.specs.Opening.{storedEntry, mapEntries, Loaded, Tables, Spoilt, loadMaps, openRefusal, OpenTo, OpenOutcome}
 use Rattle.model.specs.Opening.{untouched, allKeys, withTables, withKeys, withCell, openModel}
 use Rattle.model.specs.Conditions.{TablesFit}
+use Rattle.model.proofs.Tests.{equal}
+use Rattle.model.proofs.Requests as requests
 use Rattle.guarantees.specs.Rules.{Names}
 use Rattle.guarantees.specs.Openings.{Lowest}
 use Rattle.guarantees.specs.Points.{Handed, Lent, opens, Maps, Opens}
-use Rattle.guarantees.proofs.Reflects.{equal}
-use Rattle.guarantees.proofs.Chains.{guards-none, leads-zero}
-use Rattle.guarantees.proofs.Orders.{differ-guards, badGeometry-guards, tables-guards, names-guards, open-leads}
+use Rattle.guarantees.proofs.Reflects.{refutes-passed}
+use Rattle.guarantees.proofs.Chains.{leads-zero}
+use Rattle.guarantees.proofs.Orders.{missing-refutes, open-leads}
 use Rattle.guarantees.proofs.Sound.{Sound, tableEntry}
 use Rattle.guarantees.proofs.Blocks.{same-slot}
 use Rattle.guarantees.proofs.Cases.{Stands}
@@ -77,14 +79,10 @@ pub record Taken (device : List ℕ) (x : Handed) (l : Lent) : Type 0 where
 
 module _ (device : List ℕ) (x : Handed) (l : Lent) where
   pub openRefusal-none : openRefusalOf device x l ≡ 0 → Taken device x l
-  unfolding openRefusal
   openRefusal-none e =
-      let good = guards-none (badGeometry-guards 1 (x .geometry)) _ e in
-      let long = guards-none (differ-guards 2 (length device) (deviceLength (x .geometry))) _ (good .1) in
-      let keyed = guards-none (differ-guards 3 (length (x .key)) 32) _ (long .1) in
-      let tables = guards-none (tables-guards (x .geometry) (length (l .maps)) (length (l .owners))) _ (keyed .1) in
-      let names = guards-none (names-guards (x .geometry .p) (x .perm)) 0 (tables .1) in
-      record { good = good .0; long = long .0; keyed = keyed .0; tables = tables .0; names = names .0 }
+      let q = requests.openRefusal-none _ _ _ _ _ _ e in
+      let each = refutes-passed (missing-refutes (x .geometry .p) (x .perm)) (q .named) in
+      record { good = q .allowed; long = q .long; keyed = q .key-long; tables = q .tables; names = record { places = q .places; each = each } }
 
   pub openRefusal-taken : Taken device x l → openRefusalOf device x l ≡ 0
   openRefusal-taken t =

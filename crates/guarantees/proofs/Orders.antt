@@ -1,6 +1,6 @@
 -- The refusals of each call, in their order: the number that the model's chain gives is that of the first rule that holds.
 -- Assumes nothing.
-use Prim.Native.Nat.{ℕ, zero, suc, _+_, _-_, _*_, _/_, _<_}
+use Prim.Native.Nat.{ℕ, zero, suc, _+_, _*_, _/_, _<_}
 use mathlib.Core.Path.{_≡_, sym}
 use mathlib.Core.Logic.{_⊎_, inl, inr}
 use mathlib.Core.Bool.{not}
@@ -18,18 +18,19 @@ use Rattle.model.specs.Read.{readRefusal}
 use Rattle.model.specs.Write.{writeRefusal}
 use Rattle.model.specs.Close.{anyBad, closeRefusal}
 use Rattle.model.specs.Conditions.{Usable, TablesFit, EntryFits, Enough}
+use Rattle.model.proofs.Requests.{short-false, short-true}
 use Rattle.guarantees.specs.Rules.{Rule, rule, sliceAt, Names}
 use Rattle.guarantees.specs.Rules.{standingRules, askedRules, openRules, readRules, closeRules}
 use Rattle.guarantees.proofs.Reflects.{Reflects, fails, ltb-reflects, leb-reflects, eqb-reflects, bool-reflects, reflects-map, or-reflects}
-use Rattle.guarantees.proofs.Reflects.{Refutes, not-refutes, ltb-refutes, refutes-map, or-refutes, Below, below-zero-refutes, below-suc-refutes}
+use Rattle.guarantees.proofs.Reflects.{Refutes, refuted, not-refutes, ltb-refutes, Below, below-zero-refutes, below-suc-refutes}
 use Rattle.guarantees.proofs.Chains.{Guards, refuse-guards, guards-map, guards-both, Leads, none, leads-refuse, leads-row}
 
 -- ---- the tests of the rows
 
-pub differ-guards : (n x y : ℕ) → Guards (refuse (not (eqb x y)) n) n (x ≡ y)
+differ-guards : (n x y : ℕ) → Guards (refuse (not (eqb x y)) n) n (x ≡ y)
 differ-guards n x y = refuse-guards n (not-refutes (eqb-reflects x y))
 
-pub badGeometry-guards : (n : ℕ) (g : Geometry) → Guards (badGeometry n g) n (Allowed g)
+badGeometry-guards : (n : ℕ) (g : Geometry) → Guards (badGeometry n g) n (Allowed g)
 unfolding badGeometry
 badGeometry-guards n g =
     guards-map
@@ -41,13 +42,11 @@ badGeometry-guards n g =
     (guards-both (refuse-guards n (ltb-refutes (g .p) 1))
     (refuse-guards n (ltb-refutes 4096 (g .p)))))))
 
-pub badEntry-refutes : (g : Geometry) (x : ℕ) → Refutes (EntryFits g x) (badEntry (g .p) x)
+badEntry-refutes : (g : Geometry) (x : ℕ) → Refutes (EntryFits g x) (badEntry (g .p) x)
 badEntry-refutes g x = not-refutes (or-reflects (eqb-reflects x unmapped) (ltb-reflects x (g .p)))
 
 pub short-refutes : (tape position need : ℕ) → Refutes (Enough tape position need) (short tape position need)
-unfolding short
-short-refutes tape position need =
-    refutes-map (λ p. omega arith) (λ e. (omega arith, omega arith)) (or-refutes (ltb-refutes tape position) (ltb-refutes (tape - position) need))
+short-refutes tape position need = refuted (short tape position need) (short-true tape position need) (short-false tape position need)
 
 -- ---- the permutation, and the entries of a close
 
@@ -70,11 +69,11 @@ member-reflects ψ (φ ∷ perm) = reflects-map to from (or-reflects (eqb-reflec
     from : Named (φ ∷ perm) ψ → (ψ ≡ φ) ⊎ Named perm ψ
     from k = at (k .0) (k .1) (k .2)
 
-missing-refutes : (n : ℕ) (perm : List ℕ) → Refutes (Below n (Named perm)) (missing n perm)
+pub missing-refutes : (n : ℕ) (perm : List ℕ) → Refutes (Below n (Named perm)) (missing n perm)
 missing-refutes zero perm = below-zero-refutes (Named perm)
 missing-refutes (suc n) perm = below-suc-refutes (Named perm) n (missing-refutes n perm) (not-refutes (member-reflects n perm))
 
-pub anyBad-refutes : (g : Geometry) (maps : List ℕ) (n : ℕ) → Refutes (Below n (λ m. EntryFits g (getD maps m 0))) (anyBad (g .p) maps n)
+anyBad-refutes : (g : Geometry) (maps : List ℕ) (n : ℕ) → Refutes (Below n (λ m. EntryFits g (getD maps m 0))) (anyBad (g .p) maps n)
 unfolding anyBad
 anyBad-refutes g maps zero = below-zero-refutes (λ m. EntryFits g (getD maps m 0))
 anyBad-refutes g maps (suc n) =
@@ -82,18 +81,18 @@ anyBad-refutes g maps (suc n) =
 
 -- ---- the orders
 
-pub usable-guards : (s : Session) → Guards (λ rest. refuse (not (s .opened)) 20 (badGeometry 20 (s .geometry) (refuse (ltb 14 (s .k)) 20 rest))) 20 (Usable s)
+usable-guards : (s : Session) → Guards (λ rest. refuse (not (s .opened)) 20 (badGeometry 20 (s .geometry) (refuse (ltb 14 (s .k)) 20 rest))) 20 (Usable s)
 usable-guards s =
     guards-map (λ p. record { opened = p .0; allowed = p .1 .0; top = p .1 .1 }) (λ u. (u .opened, (u .allowed, u .top)))
     (guards-both (refuse-guards 20 (not-refutes (bool-reflects (s .opened))))
     (guards-both (badGeometry-guards 20 (s .geometry))
     (refuse-guards 20 (ltb-refutes 14 (s .k)))))
 
-pub tables-guards : (g : Geometry) (maps owners : ℕ)
+tables-guards : (g : Geometry) (maps owners : ℕ)
     → Guards (λ rest. refuse (not (eqb maps (15 * g .p))) 4 (refuse (not (eqb owners (g .p))) 4 rest)) 4 (TablesFit g maps owners)
 tables-guards g maps owners = guards-both (differ-guards 4 maps (15 * g .p)) (differ-guards 4 owners (g .p))
 
-pub names-guards : (p : ℕ) (perm : List ℕ) → Guards (λ rest. refuse (not (eqb (length perm) p)) 5 (refuse (missing p perm) 5 rest)) 5 (Names p perm)
+names-guards : (p : ℕ) (perm : List ℕ) → Guards (λ rest. refuse (not (eqb (length perm) p)) 5 (refuse (missing p perm) 5 rest)) 5 (Names p perm)
 names-guards p perm =
     guards-map (λ k. record { places = k .0; each = k .1 }) (λ k. (k .places, k .each))
     (guards-both (differ-guards 5 (length perm) p) (refuse-guards 5 (missing-refutes p perm)))

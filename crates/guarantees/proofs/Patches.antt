@@ -7,7 +7,7 @@ use lib.ListN.{length, getD}
 use Rattle.model.specs.Parts.{overlay, Patch, patched}
 use Rattle.guarantees.specs.Runs.{Range, Within}
 use Rattle.model.proofs.Parts.{overlay-length, overlay-getD-before, overlay-getD-after, overlay-getD-both, overlay-getD-over}
-use Rattle.guarantees.proofs.Reflects.{below}
+use Rattle.model.proofs.Tests.{below}
 
 -- The places that patches write.
 abbrev pub rangesOf : List Patch → List Range

@@ -11,7 +11,7 @@ use Rattle.model.specs.Parts.{part, overlay}
 use Rattle.model.specs.Geometry.{sliceSize, sliceStart, ivStart, blockStart, Allowed}
 use Rattle.model.proofs.Parts.{overlay-before, overlay-after}
 use Rattle.model.proofs.Bounds.{iv-within, block-within, iv-within-slice}
-use Rattle.guarantees.proofs.Reflects.{three}
+use Rattle.model.proofs.Tests.{three}
 
 -- Two ranges with no place in common.
 abbrev pub Apart : (a n at len : ℕ) → Type 0

@@ -22,8 +22,10 @@ use Rattle.guarantees.specs.Rules.{closeRules}
 use Rattle.guarantees.specs.Arrays.{Arrays, put, arraysAfter, arraysAfterAll, heldEntry, Fits, Unfit, ReadDue, FindDue, found, nowhere}
 use Rattle.guarantees.specs.Arrays.{WriteDue, rewrite-short, claim-short, no-slice, full, CloseDue, done, close-short, Due, AllDue}
 use Rattle.model.proofs.Parts.{part-length, overlay-before, overlay-length}
+use Rattle.model.proofs.Tests.{equal}
 use Rattle.model.proofs.Bounds.{sliceOf-lt, offsetOf-lt}
-use Rattle.guarantees.proofs.Reflects.{ltb-reflects, eqb-reflects, bool-reflects, reflects-stable, choose-reflects, equal}
+use Rattle.model.proofs.Requests.{readRefusal-none, readRefusal-served}
+use Rattle.guarantees.proofs.Reflects.{ltb-reflects, eqb-reflects, bool-reflects, reflects-stable, choose-reflects}
 use Rattle.guarantees.proofs.Chains.{Leads, here, later}
 use Rattle.guarantees.proofs.Orders.{earlyRules, write-leads, close-leads}
 use Rattle.guarantees.proofs.Patches.{patched-length}
@@ -31,7 +33,7 @@ use Rattle.guarantees.proofs.Places.{slice-first}
 use Rattle.guarantees.proofs.Sound.{Sound, OpenVolume, tableEntry}
 use Rattle.guarantees.proofs.Blocks.{same-address, deciphered-unmapped, restored-here, restored-other, claimedText}
 use Rattle.guarantees.proofs.Blocks.{filled-here, filled-other}
-use Rattle.guarantees.proofs.Cases.{unless-cases, Stands, Asked, readRefusalOf, readRefusal-none, readRefusal-served, writeRefusalOf}
+use Rattle.guarantees.proofs.Cases.{unless-cases, Stands, Asked, Ready, readRefusalOf, writeRefusalOf}
 use Rattle.guarantees.proofs.Cases.{Writable, write-cases, write-stores, close-cases}
 use Rattle.guarantees.proofs.Claims.{claimed-entry, claimed-entry-other, claimed-new, claimed-sound}
 
@@ -235,17 +237,18 @@ module _ (first : State) (st : State) (arrays : Arrays) (kept : Kept first array
   n = length (st .device)
 
   -- A request that fits is not refused.
-  fits-asked : (m i a len : ℕ) → Fits h₀ m i a len → Stands n h₀ × Asked h₀ i a len
-  fits-asked m i a len f =
-      let op = kept (f .opened) in (
-        op .stands,
-        record {
+  fits-ready : (m i a len : ℕ) → Fits h₀ m i a len → Ready n h₀ i a len
+  fits-ready m i a len f =
+      let op = kept (f .opened) in
+      record {
+        stands = op .stands;
+        asked = record {
           volume = f .volume;
           address = f .address;
           size = f .size;
           mapped = op .sound .whole i (sliceOf g₀ a) (f .volume) (sliceOf-lt g₀ (op .stands .usable .allowed) a (f .address));
-        },
-      )
+        };
+      }
 
   asked-fits : (m i a len : ℕ) → Stands n h₀ → m ≡ g₀ .p → Asked h₀ i a len → Fits h₀ m i a len
   asked-fits m i a len s q w = record { opened = s .usable .opened; places = q; volume = w .volume; address = w .address; size = w .size }
@@ -281,7 +284,7 @@ module _ (first : State) (st : State) (arrays : Arrays) (kept : Kept first array
   read-unfit i a len r e = write-unfit (g₀ .p) i a len r (rw (eq-eqb (g₀ .p) (g₀ .p) refl) e)
 
   read-fits : (i a len : ℕ) → readRefusalOf n h₀ i a len ≡ 0 → Fits h₀ (g₀ .p) i a len
-  read-fits i a len e = let s = readRefusal-none h₀ i a len n e in asked-fits (g₀ .p) i a len (s .0) refl (s .1)
+  read-fits i a len e = let q = readRefusal-none n _ _ _ i a len e in asked-fits (g₀ .p) i a len (q .stands) refl (q .asked)
 
   read-due : (i a room : ℕ) → ReadDue arrays h₀ i a room (readModel (st .device) (h₀ .maps) (h₀ .owners) (h₀ .session) i a room)
   unfolding readModel
@@ -293,12 +296,12 @@ module _ (first : State) (st : State) (arrays : Arrays) (kept : Kept first array
   unfolding findModel
   find-due i a =
       unless-cases (FindDue (st .device) h₀ i a) _ _ _
-      (λ r e. nowhere (λ f. let q = fits-asked (g₀ .p) i a (g₀ .b) f in
-      let z : 0 ≡ suc r = sym (readRefusal-served h₀ i a (g₀ .b) n (q .0) (q .1)) ∙ e in
+      (λ r e. nowhere (λ f. let q = fits-ready (g₀ .p) i a (g₀ .b) f in
+      let z : 0 ≡ suc r = sym (readRefusal-served n _ _ _ i a (g₀ .b) q) ∙ e in
       absurd (omega arith)))
       (λ e. let f = read-fits i a (g₀ .b) e in
       choose-reflects (FindDue (st .device) h₀ i a) _ _ (ltb-reflects (heldEntry h₀ i a) (g₀ .p)) (found f)
-      (λ out. nowhere (λ f. ⊎-elim (λ u. u) (λ l. absurd (out l)) (fits-asked (g₀ .p) i a (g₀ .b) f .1 .mapped))))
+      (λ out. nowhere (λ f. ⊎-elim (λ u. u) (λ l. absurd (out l)) (fits-ready (g₀ .p) i a (g₀ .b) f .asked .mapped))))
 
   write-due : (i a : ℕ) (text perm tape : List ℕ) → WriteDue h₀ i a text perm tape (writeModel n h₀ i a text perm tape .answer)
   write-due i a text perm tape =

@@ -21,12 +21,13 @@ use Rattle.model.specs.Conditions.{Enough}
 use Rattle.guarantees.specs.Arrays.{heldEntry}
 use Rattle.guarantees.specs.Points.{EqualRuns}
 use Rattle.model.proofs.Parts.{part-length, part-agree}
+use Rattle.model.proofs.Tests.{below}
 use Rattle.model.proofs.Bounds.{sliceOf-lt, offsetOf-lt, block-within, iv-within-slice}
-use Rattle.guarantees.proofs.Reflects.{below}
+use Rattle.model.proofs.Requests.{readRefusal-none}
 use Rattle.guarantees.proofs.Patches.{rangesOf, patched-length, patched-both, patched-written}
 use Rattle.guarantees.proofs.Sound.{OpenVolume, tableEntry}
 use Rattle.guarantees.proofs.Blocks.{deciphered-same, claimed-length}
-use Rattle.guarantees.proofs.Cases.{Asked, readRefusalOf, readRefusal-none, Writable, write-stores, close-cases}
+use Rattle.guarantees.proofs.Cases.{Asked, readRefusalOf, Writable, write-stores, close-cases}
 use Rattle.guarantees.proofs.Claims.{claimed-entry-cases}
 use Rattle.guarantees.proofs.Stored.{run-stored, run-ranges}
 
@@ -78,8 +79,8 @@ module _ (s t : List ℕ) (h : Held) (alike : Alike (record { device = s; held =
       go : (r : ℕ) → readRefusalOf (length s) h i a len ≡ r
           → unless (readRefusalOf (length s) h i a len) refusal (f s) ≡ unless (readRefusalOf (length s) h i a len) refusal (f t)
       go zero e =
-          let st = readRefusal-none h i a len (length s) e in
-          ap (unless (readRefusalOf (length s) h i a len) refusal) (same (st .0 .usable .allowed) (st .1))
+          let q = readRefusal-none (length s) _ _ _ i a len e in
+          ap (unless (readRefusalOf (length s) h i a len) refusal) (same (q .stands .usable .allowed) (q .asked))
       go (suc r) e = rw e refl
 
   read-same : (i a room : ℕ) → readModel s (h .maps) (h .owners) (h .session) i a room ≡ readModel t (h .maps) (h .owners) (h .session) i a room

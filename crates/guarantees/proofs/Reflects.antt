@@ -48,19 +48,6 @@ or-reflects (holds a) r = holds (inl a)
 or-reflects (fails f) (holds b) = holds (inr b)
 or-reflects (fails f) (fails g) = fails (⊎-elim f g)
 
-reflects-either : {A : Type 0} {b : Bool} → Reflects A b → A ⊎ (A → ⊥)
-reflects-either (holds a) = inl a
-reflects-either (fails f) = inr f
-
-pub equal : (m n : ℕ) → (m ≡ n) ⊎ (m ≡ n → ⊥)
-equal m n = reflects-either (eqb-reflects m n)
-
-pub below : (m n : ℕ) → (m < n) ⊎ (n ≤ m)
-below m n = ⊎-elim inl (λ k. inr (omega arith)) (reflects-either (ltb-reflects m n))
-
-pub three : (m n : ℕ) → (m < n) ⊎ ((m ≡ n) ⊎ (n < m))
-three m n = ⊎-elim inl (λ l. inr (⊎-elim (λ q. inl (sym q)) inr (eq-or-lt-of-le l))) (below m n)
-
 -- ---- tests that are true where a condition fails
 
 -- A test that is true exactly where P fails.
@@ -68,23 +55,20 @@ pub data Refutes (P : Type 0) : Bool → Type 0 where
   passes : P → Refutes P false
   refutes : (P → ⊥) → Refutes P true
 
+pub refuted : {P : Type 0} (b : Bool) → (b ≡ true → P → ⊥) → (b ≡ false → P) → Refutes P b
+refuted true f g = refutes (f refl)
+refuted false f g = passes (g refl)
+
+pub refutes-passed : {P : Type 0} {b : Bool} → Refutes P b → b ≡ false → P
+refutes-passed (passes p) e = p
+refutes-passed (refutes f) e = absurd (false≢true (sym e))
+
 pub not-refutes : {P : Type 0} {b : Bool} → Reflects P b → Refutes P (not b)
 not-refutes (holds p) = passes p
 not-refutes (fails f) = refutes f
 
 pub ltb-refutes : (m n : ℕ) → Refutes (n ≤ m) (ltb m n)
-ltb-refutes m n = go (ltb-reflects m n)
-  where
-    go : {b : Bool} → Reflects (m < n) b → Refutes (n ≤ m) b
-    go (holds l) = refutes (λ k. omega arith)
-    go (fails f) = passes (omega arith)
-
-pub leb-refutes : (m n : ℕ) → Refutes (n < m) (leb m n)
-leb-refutes m n = go (leb-reflects m n)
-  where
-    go : {b : Bool} → Reflects (m ≤ n) b → Refutes (n < m) b
-    go (holds l) = refutes (λ k. omega arith)
-    go (fails f) = passes (omega arith)
+ltb-refutes m n = refuted (ltb m n) (λ e l. omega (arith, ltb-true m n e)) (ltb-false m n)
 
 pub refutes-map : {P Q : Type 0} {b : Bool} → (P → Q) → (Q → P) → Refutes P b → Refutes Q b
 refutes-map to from (passes p) = passes (to p)

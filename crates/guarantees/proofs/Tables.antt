@@ -9,8 +9,9 @@ use lib.ListN.{length, getD, set, replicate, getD-replicate, length-replicate, l
 use lib.Seq.{getD-set-same, getD-set-other}
 use Rattle.model.specs.Session.{unmapped}
 use Rattle.model.specs.Opening.{Loaded, Tables, Spoilt, settle, load}
+use Rattle.model.proofs.Tests.{equal}
 use Rattle.guarantees.specs.Openings.{Sound}
-use Rattle.guarantees.proofs.Reflects.{ltb-reflects, eqb-reflects, choose-reflects, equal}
+use Rattle.guarantees.proofs.Reflects.{ltb-reflects, eqb-reflects, choose-reflects}
 
 -- Tables that hold the first n entries; the map table has 15 × P places.
 pub record Holds (p : ℕ) (e : ℕ → ℕ) (n : ℕ) (maps owners : List ℕ) : Type 0 where

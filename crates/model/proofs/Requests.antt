@@ -1,5 +1,5 @@
--- Laws of the refusals that requests share: what holds where none of them applies. Assumes nothing.
-use Prim.Native.Nat.{ℕ, suc, _-_, _≤_, _<_}
+-- Laws of the refusals of each call: what holds where none of them applies. Assumes nothing.
+use Prim.Native.Nat.{ℕ, _-_, _≤_, _<_}
 use mathlib.Core.Path.{_≡_, ap, _∙_}
 use mathlib.Core.List.{List}
 use mathlib.Core.Bool.{true, false, not}
@@ -11,10 +11,14 @@ use borrow.Author.Tests.{leb-false, ltb-true, ltb-false, eqb-true, not-false, le
 use Rattle.model.specs.declared.Geometry.{Geometry}
 use Rattle.model.specs.declared.Session.{Session}
 use Rattle.model.specs.Geometry.{Allowed, deviceLength}
-use Rattle.model.specs.Session.{blockCount, entryOf, standing, asked, short}
+use Rattle.model.specs.Session.{Held, blockCount, entryOf, standing, asked, short}
 use Rattle.model.specs.Conditions.{Usable, TablesFit, EntryFits, Enough}
 use Rattle.model.specs.Opening.{missing, openRefusal}
-use Rattle.model.proofs.Tests.{or-true, or-false, equal-passes, refuse-none, refuse-false, badGeometry-none, badGeometry-allowed, badEntry-false, badEntry-fits}
+use Rattle.model.specs.Read.{readRefusal}
+use Rattle.model.specs.Write.{writeRefusal}
+use Rattle.model.specs.Close.{closeNeed, closeRefusal}
+use Rattle.model.proofs.Tests.{or-true, or-false, equal-passes, refuse-none, refuse-false}
+use Rattle.model.proofs.Tests.{badGeometry-none, badGeometry-allowed, badEntry-false, badEntry-fits}
 
 -- ---- 20, 2, 4
 
@@ -97,6 +101,55 @@ unfolding short
 short-true tape position need e l =
     ⊎-elim (λ q. omega (arith, ltb-true tape position q)) (λ q. omega (arith, ltb-true (tape - position) need q))
     (or-true (ltb tape position) (ltb (tape - position) need) e)
+
+-- ---- read and find
+
+module _ (device : ℕ) (maps owners : List ℕ) (s : Session) (i a len : ℕ) where
+  -- A read or a find that nothing refuses.
+  pub record Ready : Type 0 where
+    pub stands : Stands device (length maps) (length owners) s
+    pub asked : Asked maps s i a len
+
+  pub readRefusal-none : readRefusal device maps owners s i a len ≡ 0 → Ready
+  unfolding readRefusal
+  readRefusal-none e = let p = standing-none _ _ _ _ _ e in record { stands = p .0; asked = asked-none _ _ _ _ _ (p .1) }
+
+  pub readRefusal-served : Ready → readRefusal device maps owners s i a len ≡ 0
+  unfolding readRefusal
+  readRefusal-served q = standing-stands _ _ _ _ _ (q .stands) ∙ asked-served _ _ _ _ _ (q .asked)
+
+  -- ---- write
+
+  module _ (perm : ℕ) where
+    -- A write that none of the refusals before the search and the tape applies to.
+    pub record Writable : Type 0 where
+      pub none : writeRefusal device maps owners s i a len perm ≡ 0
+      pub stands : Stands device (length maps) (length owners) s
+      pub places : perm ≡ s .geometry .p
+      pub asked : Asked maps s i a len
+
+    pub writeRefusal-none : writeRefusal device maps owners s i a len perm ≡ 0 → Writable
+    unfolding writeRefusal
+    writeRefusal-none e =
+        let p = standing-none _ _ _ _ _ e in
+        let q = refuse-none _ _ _ (p .1) in
+        record { none = e; stands = p .0; places = eqb-true _ _ (not-false _ (q .0)); asked = asked-none _ _ _ _ _ (q .1) }
+
+-- ---- close
+
+module _ (device : ℕ) (h : Held) (tape : ℕ) where
+  -- A close that is not refused.
+  pub record Closable : Type 0 where
+    pub stands : Stands device (length (h .maps)) (length (h .owners)) (h .session)
+    pub enough : Enough tape (h .position) (closeNeed (h .session))
+
+  pub closeRefusal-none : closeRefusal device h tape ≡ 0 → Closable
+  unfolding closeRefusal
+  closeRefusal-none e =
+      let p1 = standing-none _ _ _ _ _ e in
+      let p2 = refuse-none _ _ _ (p1 .1) in
+      let p3 = refuse-none _ _ _ (p2 .1) in
+      record { stands = p1 .0; enough = short-false _ _ _ (p3 .0) }
 
 -- ---- opening: 1 to 5
 

@@ -51,12 +51,6 @@ unfolding refuse
 refuse-none true n r e = absurd (omega arith)
 refuse-none false n r e = (refl, e)
 
--- A refusal is by this condition, or by what follows it.
-pub refuse-some : (b : Bool) (n rest r : ℕ) → refuse b n rest ≡ suc r → ((b ≡ true) × (n ≡ suc r)) ⊎ ((b ≡ false) × (rest ≡ suc r))
-unfolding refuse
-refuse-some true n rest r e = inl (refl, e)
-refuse-some false n rest r e = inr (refl, e)
-
 pub refuse-false : (b : Bool) (n r : ℕ) → b ≡ false → refuse b n r ≡ r
 unfolding refuse
 refuse-false b n r e = ap (λ (x : Bool). refuse x n r) e

@@ -12,7 +12,7 @@ use Rattle.model.specs.Parts.{part}
 use Rattle.model.specs.Geometry.{ivStart, blockStart}
 use Rattle.model.specs.Session.{slot, sliceOf, offsetOf, entryOf}
 use Rattle.model.specs.Read.{deciphered, blockOf, readRefusal, Filled, Refused, readModel, findModel}
-use Rattle.model.proofs.Requests.{Stands, standing-none, Asked, asked-none}
+use Rattle.model.proofs.Requests.{Stands, Asked}
 use Rattle.model.proofs.Bounds.{slot-lt, sliceOf-lt}
 use Rattle.model.proofs.Order.{unless-refused}
 
@@ -25,17 +25,6 @@ asked-slot {s = s} {i = i} {a = a} h q =
     let ok = h .usable .allowed in
     rw (h .tables .0)
     (slot-lt (s .geometry) ok i _ (omega (arith, q .volume, h .usable .top)) (sliceOf-lt (s .geometry) ok a (q .address)))
-
--- A read or a find that nothing refuses.
-pub record Ready (device : ℕ) (maps owners : List ℕ) (s : Session) (i a room : ℕ) : Type 0 where
-  pub stands : Stands device (length maps) (length owners) s
-  pub asked : Asked maps s i a room
-
-pub readRefusal-none : (device : ℕ) (maps owners : List ℕ) (s : Session) (i a room : ℕ) → readRefusal device maps owners s i a room ≡ 0
-    → Ready device maps owners s i a room
-unfolding readRefusal
-readRefusal-none device maps owners s i a room e =
-    let p = standing-none _ _ _ _ _ e in record { stands = p .0; asked = asked-none _ _ _ _ _ (p .1) }
 
 -- ---- read
 

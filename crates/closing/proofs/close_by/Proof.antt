@@ -11,8 +11,9 @@ use Rattle.model.specs.Geometry.{mapBlocks, mapStart}
 use Rattle.model.specs.Session.{held, keyOf, unmapped}
 use Rattle.model.specs.Close.{mapBytes, mapPatches}
 use Rattle.model.proofs.Parts.{part-lent, part-lent-length, overlay-length}
+use Rattle.model.proofs.Requests.{Closable, closeRefusal-none}
 use Rattle.closing.proofs.MapBlocks.{mapPatches-turn}
-use Rattle.closing.proofs.Outcomes.{Closable, closeNeed-small, closeNeed-covers, closeRefusal-none, close-refused, close-served}
+use Rattle.closing.proofs.Outcomes.{closeNeed-small, closeNeed-covers, close-refused, close-served}
 use Rattle.closing.proofs.close_by.Statement.{statement}
 use Rattle.closing.proofs.close_by.Tie as tie
 

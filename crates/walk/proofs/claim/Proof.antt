@@ -10,11 +10,11 @@ use Rattle.model.specs.declared.Session.{Session}
 use Rattle.model.specs.Geometry.{deviceLength}
 use Rattle.model.specs.Session.{held, slot, sliceOf}
 use Rattle.model.proofs.Bounds.{offsetOf-lt}
+use Rattle.model.proofs.Requests.{Writable, writeRefusal-none}
 use Rattle.reading.proofs.Outcomes.{asked-slot}
 use Rattle.deciding.specs.declared.Decision.{Decision}
 use Rattle.deciding.specs.declared.Decision.the-variants.{Rewrite, Claim}
 use Rattle.deciding.specs.Decided.{Decided}
-use Rattle.deciding.proofs.Outcomes.{Writable, writeRefusal-none}
 use Rattle.walk.specs.State.{allOpen, zeros, endless}
 use Rattle.walk.proofs.Example.{zeros-length}
 use Rattle.walk.proofs.Claims.{refusal-answers, rewrite-answers, claim-answers}

@@ -13,11 +13,11 @@ use Rattle.model.specs.Write.{Served}
 use Rattle.model.specs.Answers.{writeResult}
 use Rattle.model.proofs.Parts.{part-length, part-lent, part-lent-length}
 use Rattle.model.proofs.Bounds.{offsetOf-lt}
+use Rattle.model.proofs.Requests.{Writable, writeRefusal-none}
 use Rattle.reading.proofs.Outcomes.{asked-slot}
 use Rattle.deciding.specs.declared.Decision.{Decision}
 use Rattle.deciding.specs.declared.Decision.the-variants.{Refused, Rewrite, Claim}
 use Rattle.deciding.specs.Decided.{Decided}
-use Rattle.deciding.proofs.Outcomes.{Writable, writeRefusal-none}
 use Rattle.writing.proofs.write_by.Statement.{statement}
 use Rattle.writing.proofs.write_by.Tie as tie
 
