@@ -12,7 +12,7 @@ ghost use Rattle.field.specs.Sbox.{IsSbox};
 ghost use Rattle.ghash.specs.Hash.{ghash};
 ghost use Rattle.refusals.specs.Numbers.{answerNumber, unlessRefused};
 ghost use Rattle.gcm.specs.Gcm.{subkey, hashInput, tagUnder, gcmTag, gcmText, same, gcmOpen};
-ghost use Rattle.gcm.specs.Call.{sealRefusal, openRefusal, openedNumber, openedOver};
+ghost use Rattle.gcm.specs.Call.{gcmRefusal, sealRefusal, openRefusal, openedNumber, openedOver};
 ghost use Rattle.gcm.specs.Theorems.{GcmLaws};
 use block::Block;
 use refusals::Answer;
@@ -130,6 +130,31 @@ pub fn open_into(key: &[u8], iv: &[u8], aad: &[u8], text: &[u8], tag: &[u8], out
     false
 }
 
+// The refusal of either call for the lengths of what it was handed: 3 or 13.
+fn lengths_refusal(key: usize, iv: usize, aad: usize, text: usize, tag: usize, out: usize) -> Answer
+    ensures { λ r. ⌜ answerNumber r ≡ gcmRefusal key iv aad text tag out 0 ⌝ }
+{
+    if key != 32 {
+        return Answer::Refused(Refusal::KeyLength);
+    }
+    if iv != 12 {
+        return Answer::Refused(Refusal::WrongLength);
+    }
+    if aad > 16 {
+        return Answer::Refused(Refusal::WrongLength);
+    }
+    if text > 256 {
+        return Answer::Refused(Refusal::WrongLength);
+    }
+    if tag != 16 {
+        return Answer::Refused(Refusal::WrongLength);
+    }
+    if out != text {
+        return Answer::Refused(Refusal::WrongLength);
+    }
+    Answer::Served
+}
+
 // A text of 0 to 256 bytes with 0 to 16 of associated data sealed, or refusal 3 or 13, by which the buffers stay.
 pub fn seal(
     key: &[u8],
@@ -147,23 +172,16 @@ pub fn seal(
         (gcmTag (now (key .entry)) (now (iv .entry)) (now (aad .entry)) (gcmText (now (key .entry)) (now (iv .entry)) (now (text .entry))))
         (now (tag .entry)) ⌝ }
 {
-    if key.len() != 32 {
-        return Answer::Refused(Refusal::KeyLength);
-    }
-    if iv.len() != 12 {
-        return Answer::Refused(Refusal::WrongLength);
-    }
-    if aad.len() > 16 {
-        return Answer::Refused(Refusal::WrongLength);
-    }
-    if text.len() > 256 {
-        return Answer::Refused(Refusal::WrongLength);
-    }
-    if tag.len() != 16 {
-        return Answer::Refused(Refusal::WrongLength);
-    }
-    if out.len() != text.len() {
-        return Answer::Refused(Refusal::WrongLength);
+    let bad = lengths_refusal(
+        key.len(),
+        iv.len(),
+        aad.len(),
+        text.len(),
+        tag.len(),
+        out.len(),
+    );
+    if let Answer::Refused(_) = bad {
+        return bad;
     }
     seal_into(key, iv, aad, text, out, tag);
     Answer::Served
@@ -176,23 +194,16 @@ pub fn open(key: &[u8], iv: &[u8], aad: &[u8], text: &[u8], tag: &[u8], out: &mu
     ensures output { λ r. ⌜ now (out .exit) ≡ unlessRefused (answerNumber r) (gcmText (now (key .entry)) (now (iv .entry)) (now (text .entry)))
         (now (out .entry)) ⌝ }
 {
-    if key.len() != 32 {
-        return Answer::Refused(Refusal::KeyLength);
-    }
-    if iv.len() != 12 {
-        return Answer::Refused(Refusal::WrongLength);
-    }
-    if aad.len() > 16 {
-        return Answer::Refused(Refusal::WrongLength);
-    }
-    if text.len() > 256 {
-        return Answer::Refused(Refusal::WrongLength);
-    }
-    if tag.len() != 16 {
-        return Answer::Refused(Refusal::WrongLength);
-    }
-    if out.len() != text.len() {
-        return Answer::Refused(Refusal::WrongLength);
+    let bad = lengths_refusal(
+        key.len(),
+        iv.len(),
+        aad.len(),
+        text.len(),
+        tag.len(),
+        out.len(),
+    );
+    if let Answer::Refused(_) = bad {
+        return bad;
     }
     if open_into(key, iv, aad, text, tag, out) {
         return Answer::Served;

@@ -1,25 +1,12 @@
 -- The first refusal that applies stands, whatever the rest says. Assumes nothing.
 use Prim.Native.Nat.{ℕ, zero, suc, _<_}
 use mathlib.Core.Path.{_≡_, refl}
-use mathlib.Core.Bool.{Bool, true, false}
 use native.Mathlib.Omega.{arith}
-use Rattle.refusals.specs.Numbers.{refuse}
+use Rattle.refusals.proofs.Refuse.{Stands-first, rest-first, refuse-first}
 use Rattle.model.specs.declared.Geometry.{Geometry}
 use Rattle.model.specs.declared.Session.{Session}
 use Rattle.model.specs.Geometry.{badGeometry}
 use Rattle.model.specs.Session.{standing, unless}
-
--- A chain that refuses before its rest is reached says the same for every rest.
-abbrev Stands-first : (ℕ → ℕ) → Type 0
-Stands-first chain = 0 < chain 0 → (rest : ℕ) → chain rest ≡ chain 0
-
-rest-first : Stands-first (λ rest. rest)
-rest-first l rest = absurd (omega arith)
-
-refuse-first : (b : Bool) (n : ℕ) (chain : ℕ → ℕ) → Stands-first chain → Stands-first (λ rest. refuse b n (chain rest))
-unfolding refuse
-refuse-first true n chain first l rest = refl
-refuse-first false n chain first l rest = first l rest
 
 geometry-first : (n : ℕ) (g : Geometry) (chain : ℕ → ℕ) → Stands-first chain → Stands-first (λ rest. badGeometry n g (chain rest))
 unfolding badGeometry

@@ -8,6 +8,7 @@ use native.Mathlib.Omega.{arith}
 use lib.Dec.{ltb}
 use lib.ListN.{length}
 use borrow.Author.Tests.{leb-false, ltb-true, ltb-false, eqb-true, not-false, le-ltb, lt-leb}
+use Rattle.refusals.proofs.Refuse.{refuse-none, refuse-false}
 use Rattle.model.specs.declared.Geometry.{Geometry}
 use Rattle.model.specs.declared.Session.{Session}
 use Rattle.model.specs.Geometry.{Allowed, deviceLength}
@@ -17,8 +18,7 @@ use Rattle.model.specs.Opening.{missing, openRefusal}
 use Rattle.model.specs.Read.{readRefusal}
 use Rattle.model.specs.Write.{writeRefusal}
 use Rattle.model.specs.Close.{closeNeed, closeRefusal}
-use Rattle.model.proofs.Tests.{or-true, or-false, equal-passes, refuse-none, refuse-false}
-use Rattle.model.proofs.Tests.{badGeometry-none, badGeometry-allowed, badEntry-false, badEntry-fits}
+use Rattle.model.proofs.Tests.{or-true, or-false, equal-passes, badGeometry-none, badGeometry-allowed, badEntry-false, badEntry-fits}
 
 -- ---- 20, 2, 4
 

@@ -1,13 +1,12 @@
--- Laws of tests, of refusals and of a geometry that passes them. Assumes nothing.
+-- Laws of tests, and of a geometry and an entry that pass them. Assumes nothing.
 use Prim.Native.Nat.{ℕ, suc, _≤_, _<_}
 use mathlib.Core.Path.{_≡_, refl, sym, ap, _∙_}
 use mathlib.Core.Bool.{Bool, true, false, not, _||_, false≢true}
 use mathlib.Core.Logic.{_⊎_, inl, inr, ⊎-elim}
-use native.Mathlib.Omega.{arith}
 use native.Mathlib.Nat.{eq-or-lt-of-le}
 use lib.Dec.{ltb, eqb}
 use borrow.Author.Tests.{ltb-true, ltb-false, eqb-true, eqb-false, not-false, eq-eqb, lt-ltb, le-ltb}
-use Rattle.refusals.specs.Numbers.{refuse}
+use Rattle.refusals.proofs.Refuse.{refuse-none, refuse-false}
 use Rattle.model.specs.declared.Geometry.{Geometry}
 use Rattle.model.specs.Geometry.{badGeometry}
 use Rattle.model.specs.Session.{unmapped, badEntry}
@@ -42,18 +41,6 @@ equal a b = go (eqb a b) refl
 
 pub equal-passes : (a b : ℕ) → a ≡ b → not (eqb a b) ≡ false
 equal-passes a b e = ap not (eq-eqb a b e)
-
--- ---- refusals
-
--- No refusal: this condition does not hold, and nothing that follows refuses.
-pub refuse-none : (b : Bool) (n r : ℕ) → refuse b (suc n) r ≡ 0 → (b ≡ false) × (r ≡ 0)
-unfolding refuse
-refuse-none true n r e = absurd (omega arith)
-refuse-none false n r e = (refl, e)
-
-pub refuse-false : (b : Bool) (n r : ℕ) → b ≡ false → refuse b n r ≡ r
-unfolding refuse
-refuse-false b n r e = ap (λ (x : Bool). refuse x n r) e
 
 -- ---- geometry
 

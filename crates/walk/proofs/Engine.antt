@@ -8,6 +8,7 @@ use lib.Dec.{ltb, leb, lit≤}
 use lib.ListN.{length, getD}
 use borrow.Author.Tests.{ltb-true}
 use Rattle.refusals.specs.Numbers.{refuse}
+use Rattle.refusals.proofs.Refuse.{refuse-false}
 use Rattle.model.specs.declared.Geometry.{Geometry}
 use Rattle.model.specs.declared.Session.{Session}
 use Rattle.model.specs.declared.Search.{Search}
@@ -18,7 +19,7 @@ use Rattle.model.specs.Session.{Held, Outcome, geometry, blockCount, sliceOf, o
 use Rattle.model.specs.Write.{firstFree, WriteResult, rewritten, rewriteOutcome, claimed, claimOutcome, writeRefusal, writeModel}
 use Rattle.model.specs.Conditions.{EntryFits, Enough}
 use Rattle.model.specs.Opening.{member}
-use Rattle.model.proofs.Tests.{equal-passes, refuse-false, badEntry-fits}
+use Rattle.model.proofs.Tests.{equal-passes, badEntry-fits}
 use Rattle.model.proofs.Requests.{Stands, standing-stands, short-true}
 use Rattle.model.proofs.Bounds.{b-bounds}
 use Rattle.deciding.proofs.Outcomes.{firstFree-free}
