@@ -137,12 +137,26 @@ struct Went {
     failed: bool,
 }
 
-// Reads once and walks what came; `more` says whether to go on.
+// Where a turn of reading led, and whether to go on.
 struct Turn {
     place: Place,
     more: bool,
 }
 
+// A failure, named on standard error, ends the walk; a line that is unfinished then is not answered.
+fn give_up(place: Place, what: &[u8]) -> Turn {
+    os::fail(what);
+    let walk = place.walk;
+    Turn {
+        place: Place {
+            walk: walk,
+            used: 0,
+        },
+        more: false,
+    }
+}
+
+// Reads once, and walks what came.
 fn walk_some(
     place: Place,
     maps: &mut [u32; MAP_ENTRIES],
@@ -156,7 +170,7 @@ fn walk_some(
 {
     let got = libc::read(STDIN_FILENO, input);
     if got < 0 {
-        os::fail(b"slicewalk: standard input");
+        return give_up(place, b"slicewalk: standard input");
     }
     let n = io::count(got, input);
     if n == 0 {
@@ -168,11 +182,7 @@ fn walk_some(
     let went = walk_piece(place, maps, owners, perm, line, &input[..n], output);
     let next = went.place;
     if went.failed {
-        os::fail(b"slicewalk: standard output");
-        return Turn {
-            place: next,
-            more: false,
-        };
+        return give_up(next, b"slicewalk: standard output");
     }
     Turn {
         place: next,
@@ -235,5 +245,7 @@ fn main() {
         place.used,
         &mut out,
     );
-    io::write_all(STDOUT_FILENO, &out[..n]);
+    if !io::write_all(STDOUT_FILENO, &out[..n]) {
+        os::fail(b"slicewalk: standard output");
+    }
 }

@@ -18,4 +18,7 @@ main-spec =
     (λ c. search needs)
     (λ c. sym (length-take-le _ _ (c .before .finish .ensures .fits)))
     (λ c κs. search needs)
+    (λ c. search needs)
+    (λ c κs. search needs)
+    (λ c. search needs)
     (λ c. search needs))
