@@ -1356,3 +1356,32 @@ fn ends_at_an_edge() {
         }
     }
 }
+
+// ---- failures
+
+/// A read or a write that fails is named on standard error, and an unfinished line gets no answer.
+#[test]
+fn failures_are_named() {
+    let folder = File::open(env!("CARGO_TARGET_TMPDIR")).unwrap();
+    let output = Command::new(slicewalk()).stdin(folder).output().unwrap();
+    assert_eq!(output.stdout, b"");
+    let errors = String::from_utf8(output.stderr).unwrap();
+    assert!(
+        errors.starts_with("slicewalk: standard input: "),
+        "{errors}"
+    );
+
+    let input = InputFile::new("failures");
+    for lines in [EXAMPLE_INPUT, EXAMPLE_INPUT.trim_end(), "03"] {
+        fs::write(&input.0, lines).unwrap();
+        let full = File::options().write(true).open("/dev/full").unwrap();
+        let mut command = Command::new(slicewalk());
+        command.stdin(File::open(&input.0).unwrap()).stdout(full);
+        let errors = String::from_utf8(command.output().unwrap().stderr).unwrap();
+        assert!(
+            errors.starts_with("slicewalk: standard output: "),
+            "{errors}"
+        );
+        assert_eq!(errors.lines().count(), 1, "{errors}");
+    }
+}
