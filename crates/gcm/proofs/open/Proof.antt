@@ -1,12 +1,10 @@
 -- `gcm::open` meets its contract. Assumes nothing.
-use mathlib.Core.Path.{_≡_, sym, ap, _∙_}
+use mathlib.Core.Path.{sym, ap}
 use native.Mathlib.Omega.{arith}
 use borrow.Author.Needs.{needs}
-use lib.ListN.{length}
 use Rattle.refusals.specs.Numbers.{answerNumber, unlessRefused}
 use Rattle.refusals.proofs.Positive.{answer-positive}
 use Rattle.refusals.proofs.Refuse.{unlessRefused-refused}
-use Rattle.gcm.specs.Call.{gcmRefusal}
 use Rattle.gcm.proofs.Refusals.{gcmRefusal-none, gcmRefusal-rest, gcmRefusal-first}
 use Rattle.gcm.proofs.Same.{open-test}
 use Rattle.gcm.proofs.open.Statement.{statement}
@@ -15,36 +13,33 @@ use Rattle.gcm.proofs.open.Tie as tie
 returns : tie.Need-returns
 returns c =
     let l = answer-positive (c .enum-told .given .1) in
-    let e = c .before .before .lengths-refusal .ensures in
-    (e ∙ sym (gcmRefusal-first _ _ _ _ _ _ (rw e at l) _), sym (unlessRefused-refused _ _ _ l))
-
--- No length is refused.
-none : (c : tie.After-enum-told2) → let a = c .before .before .before .before .before .before .before .before .before .args in
-    gcmRefusal (length (a .key .now)) (length (a .iv .now)) (length (a .aad .now)) (length (a .text .now)) (length (a .tag .now)) (length (a .out .now)) 0 ≡ 0
-none c = sym (c .before .before .lengths-refusal .ensures) ∙ ap answerNumber (c .enum-told2 .given .1)
+    (gcmRefusal-first _ _ _ _ _ _ (c .before .before .lengths-refusal .ensures) l _, sym (unlessRefused-refused _ _ _ l))
 
 open-into-requires : tie.Need-open-into-requires
 open-into-requires c κs =
-    let q = gcmRefusal-none _ _ _ _ _ _ (none (c .before)) in
+    let told = c .before in
+    let q = gcmRefusal-none _ _ _ _ _ _ (told .before .before .lengths-refusal .ensures) (ap answerNumber (told .enum-told2 .given .1)) in
     (q .key, (q .iv, (omega (arith, q .aad), (omega (arith, q .text), (q .tag, q .out)))))
 
 returns-2 : tie.Need-returns-2
 unfolding unlessRefused
 returns-2 c =
     let opened = c .before .before .before in
-    let a = opened .before .before .before .before .before .before .before .before .before .before .before .args in
+    let told = opened .before .before in
+    let a = told .before .before .before .before .before .before .before .before .before .args in
     let o = opened .open-into .ensures in
     let e = open-test (a .key .now) (a .iv .now) (a .aad .now) (a .text .now) (a .tag .now) (o .0) (c .if1 .taken) in
-    (rw e (gcmRefusal-rest _ _ _ _ _ _ (none (opened .before .before)) 0), rw e at (o .1))
+    (rw e (gcmRefusal-rest _ _ _ _ _ _ (told .before .before .lengths-refusal .ensures) (ap answerNumber (told .enum-told2 .given .1)) 0), rw e at (o .1))
 
 returns-3 : tie.Need-returns-3
 unfolding unlessRefused
 returns-3 c =
     let opened = c .before .before .before in
-    let a = opened .before .before .before .before .before .before .before .before .before .before .before .args in
+    let told = opened .before .before in
+    let a = told .before .before .before .before .before .before .before .before .before .args in
     let o = opened .open-into .ensures in
     let e = open-test (a .key .now) (a .iv .now) (a .aad .now) (a .text .now) (a .tag .now) (o .0) (c .if1 .left) in
-    (rw e (gcmRefusal-rest _ _ _ _ _ _ (none (opened .before .before)) 15), rw e at (o .1))
+    (rw e (gcmRefusal-rest _ _ _ _ _ _ (told .before .before .lengths-refusal .ensures) (ap answerNumber (told .enum-told2 .given .1)) 15), rw e at (o .1))
 
 pub open-spec : {M : Type 1} → statement M
 open-spec =
