@@ -6,7 +6,9 @@ use Rattle.refusals.specs.Numbers.{refusalNumber, answerNumber}
 use Rattle.refusals.specs.declared.Answer.{Answer}
 use Rattle.refusals.specs.declared.Answer.the-variants.{Refused}
 use Rattle.refusals.specs.declared.Refusal.{Refusal}
-use Rattle.refusals.specs.declared.Refusal.the-variants.{BadGeometry, DeviceLength, KeyLength, TableLength, BadPermutation, NoCell, HeaderTag, HeaderGeometry, BadEntry, SliceTwice, VolumeAbove, AddressAbove, WrongLength, MalformedLine, TagDiffers, NotOpen, TapeShort, NoFreeSlice}
+use Rattle.refusals.specs.declared.Refusal.the-variants.{BadGeometry, DeviceLength, KeyLength, TableLength, BadPermutation, NoCell, HeaderTag}
+use Rattle.refusals.specs.declared.Refusal.the-variants.{HeaderGeometry, BadEntry, SliceTwice, VolumeAbove, AddressAbove, WrongLength}
+use Rattle.refusals.specs.declared.Refusal.the-variants.{MalformedLine, TagDiffers, NotOpen, TapeShort, NoFreeSlice}
 
 pub refusal-positive : (r : Refusal) → 0 < refusalNumber r
 refusal-positive BadGeometry = omega arith
