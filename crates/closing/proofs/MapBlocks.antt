@@ -1,51 +1,36 @@
--- Laws of the map blocks that a close stores: their lengths, and one entry, block or volume more. Assumes nothing.
+-- Laws of the map blocks that a close stores: one entry, block or volume more. Assumes nothing.
 use Prim.Native.Nat.{ℕ, _+_, _-_, _*_, _≤_}
-use mathlib.Core.Path.{_≡_, sym, ap, ap₂, _∙_}
+use mathlib.Core.Path.{_≡_, sym, ap, _∙_}
 use mathlib.Core.List.{List}
 use native.Mathlib.Nat.{zero-add}
 use native.Mathlib.Numerals.{add-one}
 use native.Mathlib.Omega.{arith}
-use lib.Dec.{ltb}
-use lib.ListN.{length, length-append}
+use lib.ListN.{length}
 use Rattle.block.proofs.Bytes.{bigEndian-length}
-use Rattle.ctr.proofs.Stream.{ctr-length}
 use Rattle.model.specs.declared.Geometry.{Geometry}
-use Rattle.model.specs.Parts.{choose, part, overlay, joined, patched}
-use Rattle.model.specs.Geometry.{Allowed, perBlock, mapBlocks, mapStart, fourBytes}
-use Rattle.model.specs.Session.{Held, geometry, keyOf, entry, unmapped}
+use Rattle.model.specs.Parts.{part, overlay, joined, patched}
+use Rattle.model.specs.Geometry.{Allowed, perBlock, mapBlocks, mapStart}
+use Rattle.model.specs.Session.{Held, geometry, keyOf}
 use Rattle.model.specs.Close.{mapText, mapBlock, mapBytes, mapPatches}
-use Rattle.model.proofs.Parts.{part-length, patched-++, joined-length}
-use Rattle.model.proofs.Bounds.{b-bounds, entries-fill}
+use Rattle.model.proofs.Parts.{part-length, patched-++}
+use Rattle.model.proofs.MapBlocks.{entryBytes, mapText-length, mapBlock-length}
 use Rattle.places.proofs.Parts.{overlay-joined, overlay-all}
 
 -- ---- the entries of a map block
 
 module _ (maps : List ℕ) (g : Geometry) (i t : ℕ) where
-  -- Entry e of map block t of volume i, as bytes.
-  abbrev pub entryBytes : ℕ → List ℕ
-  entryBytes e = fourBytes (choose (ltb (t * perBlock g + e) (g .p)) (entry maps g i (t * perBlock g + e)) unmapped)
+  abbrev bytes : ℕ → List ℕ
+  bytes = entryBytes maps g i t
 
   pub mapText-turn : (buf : List ℕ) (e : ℕ)
-      → overlay (overlay buf 0 (joined e entryBytes)) (e * 4) (entryBytes e) ≡ overlay buf 0 (joined (e + 1) entryBytes)
+      → overlay (overlay buf 0 (joined e bytes)) (e * 4) (bytes e) ≡ overlay buf 0 (joined (e + 1) bytes)
   mapText-turn buf e =
-      ap (λ (at : ℕ). overlay (overlay buf 0 (joined e entryBytes)) at (entryBytes e)) (sym (zero-add (e * 4)))
-      ∙ overlay-joined buf 0 4 e entryBytes (λ j h. bigEndian-length 4 _)
+      ap (λ (at : ℕ). overlay (overlay buf 0 (joined e bytes)) at (bytes e)) (sym (zero-add (e * 4)))
+      ∙ overlay-joined buf 0 4 e bytes (λ j h. bigEndian-length 4 _)
 
-  module _ (ok : Allowed g) where
-    pub mapText-length : length (mapText maps g i t) ≡ g .b - 16
-    unfolding mapText
-    mapText-length = joined-length 4 (perBlock g) entryBytes (λ j h. bigEndian-length 4 _) ∙ entries-fill g ok
-
-    pub mapText-done : (buf : List ℕ) → length buf ≡ g .b - 16 → overlay buf 0 (joined (perBlock g) entryBytes) ≡ mapText maps g i t
-    unfolding mapText
-    mapText-done buf e = overlay-all buf (mapText maps g i t) (mapText-length ∙ sym e)
-
-    -- ---- a map block
-
-    pub mapBlock-length : (key iv : List ℕ) → length iv ≡ 16 → length (mapBlock maps g key i t iv) ≡ g .b
-    unfolding mapBlock
-    mapBlock-length key iv e =
-        length-append iv _ ∙ ap₂ (λ (x y : ℕ). x + y) e (ctr-length key iv (mapText maps g i t) ∙ mapText-length) ∙ omega (arith, b-bounds g ok)
+  pub mapText-done : Allowed g → (buf : List ℕ) → length buf ≡ g .b - 16 → overlay buf 0 (joined (perBlock g) bytes) ≡ mapText maps g i t
+  unfolding mapText
+  mapText-done ok buf e = overlay-all buf (mapText maps g i t) (mapText-length maps g i t ok ∙ sym e)
 
 -- ---- the map blocks of a volume
 

@@ -2,14 +2,12 @@
 use Prim.Native.Nat.{ℕ, _+_, _*_, _/_, _%_, _≤_, _<_}
 use mathlib.Core.Path.{_≡_, sym, ap, ap₂, _∙_}
 use mathlib.Core.List.{List}
-use mathlib.Core.Bool.{Bool, true, false}
 use mathlib.Core.Logic.{inl, inr, ⊎-elim}
 use native.Mathlib.Omega.{arith}
 use native.Mathlib.Nat.{div-add-mod'}
-use lib.ListN.{length, replicate, length-replicate, length-append}
+use lib.ListN.{length, replicate, length-append}
 use lib.Arith.{digits-div, digits-mod}
 use lib.Dec.{eqb}
-use borrow.Author.Tests.{lt-ltb, le-ltb}
 use Rattle.ctr.specs.CounterMode.{ctr}
 use Rattle.ctr.proofs.Stream.{ctr-twice, ctr-length}
 use Rattle.model.specs.declared.Geometry.{Geometry}
@@ -18,9 +16,10 @@ use Rattle.model.specs.Geometry.{deviceLength, sliceSize, sliceStart, ivStart, 
 use Rattle.model.specs.Session.{slot, sliceOf, offsetOf}
 use Rattle.model.specs.Read.{deciphered}
 use Rattle.model.specs.Write.{claimedBytes}
-use Rattle.model.proofs.Parts.{overlay-length, overlay-within, overlay-whole, part-left, part-right, joined-length, joined-part}
-use Rattle.model.proofs.Bounds.{slice-fits, iv-within, block-within, iv-within-slice, iv-fits, block-fits}
+use Rattle.model.proofs.Parts.{overlay-length, overlay-within, overlay-whole, joined-length}
+use Rattle.model.proofs.Bounds.{slice-fits, block-within, iv-within-slice, iv-fits, block-fits}
 use Rattle.model.proofs.Tests.{below}
+use Rattle.model.proofs.Blocks.{deciphered-mapped, deciphered-unmapped, claimedBlock, claimedBlock-length, claimed-block}
 use Rattle.guarantees.proofs.Places.{Apart, overlay-apart, apart, iv-iv, iv-block, block-iv, block-block}
 
 -- ---- addresses
@@ -37,23 +36,13 @@ module _ (g : Geometry) where
 
 -- ---- what a block is
 
-module _ (g : Geometry) (key : List ℕ) (ψ j : ℕ) where
-  deciphered-mapped : (device : List ℕ) → ψ < g .p
-      → deciphered g key ψ j device ≡ ctr key (part (ivStart g ψ j) 16 device) (part (blockStart g ψ j) (g .b) device)
-  unfolding deciphered
-  deciphered-mapped device l = rw (lt-ltb _ _ l)
-
-  pub deciphered-unmapped : (device : List ℕ) → g .p ≤ ψ → deciphered g key ψ j device ≡ replicate (g .b) 0
-  unfolding deciphered
-  deciphered-unmapped device l = rw (le-ltb _ _ l)
-
-  -- On two devices with the same IV and block there, or where nothing is mapped.
-  pub deciphered-same : (s t : List ℕ)
-      → (ψ < g .p → (part (ivStart g ψ j) 16 s ≡ part (ivStart g ψ j) 16 t) × (part (blockStart g ψ j) (g .b) s ≡ part (blockStart g ψ j) (g .b) t))
-      → deciphered g key ψ j s ≡ deciphered g key ψ j t
-  deciphered-same s t same =
-      ⊎-elim (λ l. deciphered-mapped s l ∙ ap₂ (ctr key) (same l .0) (same l .1) ∙ sym (deciphered-mapped t l))
-      (λ l. deciphered-unmapped s l ∙ sym (deciphered-unmapped t l)) (below ψ (g .p))
+-- On two devices with the same IV and block there, or where nothing is mapped.
+pub deciphered-same : (g : Geometry) (key : List ℕ) (ψ j : ℕ) (s t : List ℕ)
+    → (ψ < g .p → (part (ivStart g ψ j) 16 s ≡ part (ivStart g ψ j) 16 t) × (part (blockStart g ψ j) (g .b) s ≡ part (blockStart g ψ j) (g .b) t))
+    → deciphered g key ψ j s ≡ deciphered g key ψ j t
+deciphered-same g key ψ j s t same =
+    ⊎-elim (λ l. deciphered-mapped g key ψ j s l ∙ ap₂ (ctr key) (same l .0) (same l .1) ∙ sym (deciphered-mapped g key ψ j t l))
+    (λ l. deciphered-unmapped g key ψ j s l ∙ sym (deciphered-unmapped g key ψ j t l)) (below ψ (g .p))
 
 -- ---- a block stored anew
 
@@ -99,22 +88,15 @@ abbrev pub claimedText : Geometry → (text : List ℕ) → (j n : ℕ) → List
 claimedText g text j n = choose (eqb n j) text (replicate (g .b) 0)
 
 module _ (g : Geometry) (key ivs text : List ℕ) (j : ℕ) (ivsl : length ivs ≡ g .b) (textl : length text ≡ g .b) where
-  abbrev cipher : ℕ → List ℕ
-  cipher n = ctr key (part (16 * n) 16 ivs) (claimedText g text j n)
-
-  cipher-length : (n : ℕ) → length (cipher n) ≡ g .b
-  cipher-length n = ctr-length key (part (16 * n) 16 ivs) (claimedText g text j n) ∙ go (eqb n j)
-    where
-      go : (x : Bool) → length (choose x text (replicate (g .b) 0)) ≡ g .b
-      go true = textl
-      go false = length-replicate (g .b) 0
-
   abbrev bytes : List ℕ
   bytes = claimedBytes (g .b) (g .s) key ivs j text
 
   pub claimed-length : length bytes ≡ sliceSize g
   unfolding claimedBytes sliceSize
-  claimed-length = length-append ivs (joined (g .s) cipher) ∙ rw (ivsl, joined-length (g .b) (g .s) cipher (λ n l. cipher-length n)) (omega arith)
+  claimed-length =
+      let blocks = claimedBlock (g .b) key ivs j text in
+      length-append ivs (joined (g .s) blocks)
+      ∙ rw (ivsl, joined-length (g .b) (g .s) blocks (λ n l. claimedBlock-length (g .b) key ivs j text textl n)) (omega arith)
 
   module _ (ok : Allowed g) (device : List ℕ) (long : length device ≡ deviceLength g) (ψ : ℕ) (hψ : ψ < g .p) where
     abbrev filled : List ℕ
@@ -123,24 +105,22 @@ module _ (g : Geometry) (key ivs text : List ℕ) (j : ℕ) (ivsl : length ivs �
     fits : sliceStart g ψ + length bytes ≤ length device
     fits = omega (arith, slice-fits g ok ψ hψ, claimed-length)
 
-    iv-of : (n : ℕ) → n < g .s → part (ivStart g ψ n) 16 filled ≡ part (16 * n) 16 ivs
-    unfolding ivStart claimedBytes
-    iv-of n l =
-        overlay-within device (sliceStart g ψ) bytes (16 * n) 16 (omega (arith, claimed-length, iv-within-slice g ok n l)) fits
-        ∙ part-left ivs (joined (g .s) cipher) (16 * n) 16 (omega (arith, iv-within g ok n l))
+    iv-of : (n : ℕ) → n < g .s → part (ivStart g ψ n) 16 filled ≡ part (16 * n) 16 bytes
+    unfolding ivStart
+    iv-of n l = overlay-within device (sliceStart g ψ) bytes (16 * n) 16 (omega (arith, claimed-length, iv-within-slice g ok n l)) fits
 
-    block-of : (n : ℕ) → n < g .s → part (blockStart g ψ n) (g .b) filled ≡ cipher n
-    unfolding blockStart claimedBytes
+    block-of : (n : ℕ) → n < g .s → part (blockStart g ψ n) (g .b) filled ≡ part (g .b + n * g .b) (g .b) bytes
+    unfolding blockStart
     block-of n l =
         let skip : g .b * (1 + n) ≡ g .b + n * g .b = omega arith in
         overlay-within device (sliceStart g ψ) bytes (g .b * (1 + n)) (g .b) (omega (arith, claimed-length, block-within g ok n l)) fits
         ∙ ap (λ (x : ℕ). part x (g .b) bytes) skip
-        ∙ part-right ivs (joined (g .s) cipher) (g .b) ivsl (n * g .b) (g .b)
-        ∙ joined-part (g .b) (g .s) cipher (λ m k. cipher-length m) n l
 
     pub filled-here : (n : ℕ) → n < g .s → deciphered g key ψ n filled ≡ claimedText g text j n
     filled-here n l =
-        deciphered-mapped g key ψ n filled hψ ∙ ap₂ (ctr key) (iv-of n l) (block-of n l) ∙ ctr-twice key (part (16 * n) 16 ivs) (claimedText g text j n)
+        deciphered-mapped g key ψ n filled hψ
+        ∙ ap₂ (ctr key) (iv-of n l) (block-of n l)
+        ∙ claimed-block (g .b) (g .s) key ivs j text ivsl (omega (arith, ok .slice-most)) textl n l
 
     -- What lies within another slice stays.
     elsewhere : (φ x u : ℕ) → (φ ≡ ψ → ⊥) → x + u ≤ sliceSize g → part (sliceStart g φ + x) u filled ≡ part (sliceStart g φ + x) u device

@@ -6,7 +6,7 @@ use mathlib.Core.Logic.{⊎-elim}
 use native.Mathlib.Omega.{arith}
 use native.Mathlib.Nat.{add-zero, zero-add, div-add-mod', mod-lt, mod-eq-of-lt, mul-comm, mul-le-mul-left, mul-le-mul-right}
 use native.Mathlib.Nat.{eq-or-lt-of-le, le-of-suc-le-suc}
-use lib.ListN.{length, length-append}
+use lib.ListN.{length}
 use lib.Seq.{take-all}
 use lib.Dec.{ltb}
 use borrow.Author.Tests.{lt-ltb}
@@ -24,7 +24,8 @@ use Rattle.model.specs.Conditions.{EntryFits, Enough}
 use Rattle.guarantees.specs.Runs.{Range, mapRanges}
 use Rattle.model.proofs.Parts.{part-length, part-left, part-right, part-part, overlay-before, overlay-within, joined-length, joined-part}
 use Rattle.model.proofs.Parts.{joined-piece, patched-++}
-use Rattle.model.proofs.Bounds.{b-bounds, perBlock-least, entries-fill, mapBlock-of, maps-fit}
+use Rattle.model.proofs.Bounds.{b-bounds, perBlock-least, mapBlock-of, maps-fit}
+use Rattle.model.proofs.MapBlocks.{mapText-length, mapBlock-length}
 use Rattle.guarantees.proofs.Patches.{rangesOf, ranges-++, patched-length}
 use Rattle.guarantees.proofs.Places.{Apart, overlay-apart}
 
@@ -41,10 +42,6 @@ module _ (maps : List ℕ) (g : Geometry) (ok : Allowed g) where
   abbrev stored : ℕ → ℕ → ℕ → ℕ
   stored i t e = choose (ltb (t * c + e) (g .p)) (entry maps g i (t * c + e)) unmapped
 
-  mapText-length : (i t : ℕ) → length (mapText maps g i t) ≡ c * 4
-  unfolding mapText
-  mapText-length i t = joined-length 4 c (λ e. fourBytes (stored i t e)) (λ e k. bigEndian-length 4 (stored i t e))
-
   mapText-entry : (i σ : ℕ) → σ < g .p → EntryFits g (entry maps g i σ) → numberAt (4 * (σ % c)) (mapText maps g i (σ / c)) ≡ entry maps g i σ
   unfolding mapText
   mapText-entry i σ l fits =
@@ -58,13 +55,6 @@ module _ (maps : List ℕ) (g : Geometry) (ok : Allowed g) where
       this = rw (div-add-mod' σ c, lt-ltb σ (g .p) l) refl
 
   module _ (key : List ℕ) (i : ℕ) where
-    cipher-length : (t : ℕ) (iv : List ℕ) → length (ctr key iv (mapText maps g i t)) ≡ c * 4
-    cipher-length t iv = ctr-length key iv (mapText maps g i t) ∙ mapText-length i t
-
-    mapBlock-length : (t : ℕ) (iv : List ℕ) → length iv ≡ 16 → length (mapBlock maps g key i t iv) ≡ g .b
-    unfolding mapBlock
-    mapBlock-length t iv e = length-append iv _ ∙ ap₂ (λ (x y : ℕ). x + y) e (cipher-length t iv) ∙ omega (arith, entries-fill g ok, b-bounds g ok)
-
     -- A map block is its IV, then its text in counter mode.
     mapBlock-iv : (t : ℕ) (iv : List ℕ) → length iv ≡ 16 → part 0 16 (mapBlock maps g key i t iv) ≡ iv
     unfolding mapBlock
@@ -75,7 +65,7 @@ module _ (maps : List ℕ) (g : Geometry) (ok : Allowed g) where
     mapBlock-cipher t iv e =
         ap (λ (y : ℕ). part y (g .b - 16) (mapBlock maps g key i t iv)) (sym (add-zero 16))
         ∙ part-right iv (ctr key iv (mapText maps g i t)) 16 e 0 (g .b - 16)
-        ∙ take-all (g .b - 16) (ctr key iv (mapText maps g i t)) (omega (arith, cipher-length t iv, entries-fill g ok))
+        ∙ take-all (g .b - 16) (ctr key iv (mapText maps g i t)) (omega (arith, ctr-length key iv (mapText maps g i t), mapText-length maps g i t ok))
 
     module _ (tape : List ℕ) (at : ℕ) (enough : Enough (length tape) at (16 * mapBlocks g)) where
       abbrev iv : ℕ → List ℕ
@@ -85,7 +75,7 @@ module _ (maps : List ℕ) (g : Geometry) (ok : Allowed g) where
       iv-length t l = part-length tape (at + 16 * t) 16 (omega arith)
 
       each-length : (t : ℕ) → t < mapBlocks g → length (mapBlock maps g key i t (iv t)) ≡ g .b
-      each-length t l = mapBlock-length t (iv t) (iv-length t l)
+      each-length t l = mapBlock-length maps g i t ok key (iv t) (iv-length t l)
 
       mapBytes-length : length (mapBytes maps g key tape at i) ≡ g .b * mapBlocks g
       unfolding mapBytes

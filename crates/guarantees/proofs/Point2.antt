@@ -25,13 +25,14 @@ use Rattle.model.proofs.Parts.{part-length, overlay-before, overlay-length}
 use Rattle.model.proofs.Tests.{equal}
 use Rattle.model.proofs.Bounds.{sliceOf-lt, offsetOf-lt}
 use Rattle.model.proofs.Requests.{readRefusal-none, readRefusal-served}
+use Rattle.model.proofs.Blocks.{deciphered-unmapped}
 use Rattle.guarantees.proofs.Reflects.{ltb-reflects, eqb-reflects, bool-reflects, reflects-stable, choose-reflects}
 use Rattle.guarantees.proofs.Chains.{Leads, here, later}
 use Rattle.guarantees.proofs.Orders.{earlyRules, write-leads, close-leads}
 use Rattle.guarantees.proofs.Patches.{patched-length}
 use Rattle.guarantees.proofs.Places.{slice-first}
 use Rattle.guarantees.proofs.Sound.{Sound, OpenVolume, tableEntry}
-use Rattle.guarantees.proofs.Blocks.{same-address, deciphered-unmapped, restored-here, restored-other, claimedText}
+use Rattle.guarantees.proofs.Blocks.{same-address, restored-here, restored-other, claimedText}
 use Rattle.guarantees.proofs.Blocks.{filled-here, filled-other}
 use Rattle.guarantees.proofs.Cases.{unless-cases, Stands, Asked, Ready, readRefusalOf, writeRefusalOf}
 use Rattle.guarantees.proofs.Cases.{Writable, write-cases, write-stores, close-cases}

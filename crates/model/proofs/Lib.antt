@@ -4,4 +4,5 @@ pub mod Bounds
 pub mod Order
 pub mod Requests
 pub mod Cells
-pub mod Claimed
+pub mod Blocks
+pub mod MapBlocks

@@ -3,15 +3,13 @@ use Prim.Native.Nat.{ℕ, _≤_, _<_}
 use mathlib.Core.Path.{_≡_}
 use mathlib.Core.List.{List, []}
 use native.Mathlib.Omega.{arith}
-use lib.ListN.{length, replicate}
+use lib.ListN.{length}
 use borrow.Author.Tests.{lt-ltb, le-ltb}
-use Rattle.ctr.specs.CounterMode.{ctr}
-use Rattle.model.specs.declared.Geometry.{Geometry}
 use Rattle.model.specs.declared.Session.{Session}
 use Rattle.model.specs.Parts.{part}
-use Rattle.model.specs.Geometry.{ivStart, blockStart}
+use Rattle.model.specs.Geometry.{blockStart}
 use Rattle.model.specs.Session.{slot, sliceOf, offsetOf, entryOf}
-use Rattle.model.specs.Read.{deciphered, blockOf, readRefusal, Filled, Refused, readModel, findModel}
+use Rattle.model.specs.Read.{blockOf, readRefusal, Filled, Refused, readModel, findModel}
 use Rattle.model.proofs.Requests.{Stands, Asked}
 use Rattle.model.proofs.Bounds.{slot-lt, sliceOf-lt}
 use Rattle.model.proofs.Order.{unless-refused}
@@ -27,16 +25,6 @@ asked-slot {s = s} {i = i} {a = a} h q =
     (slot-lt (s .geometry) ok i _ (omega (arith, q .volume, h .usable .top)) (sliceOf-lt (s .geometry) ok a (q .address)))
 
 -- ---- read
-
-module _ (g : Geometry) (key : List ℕ) (ψ j : ℕ) (device : List ℕ) where
-  pub deciphered-mapped : ψ < g .p
-      → deciphered g key ψ j device ≡ ctr key (part (ivStart g ψ j) 16 device) (part (blockStart g ψ j) (g .b) device)
-  unfolding deciphered
-  deciphered-mapped l = rw (lt-ltb _ _ l)
-
-  pub deciphered-unmapped : g .p ≤ ψ → deciphered g key ψ j device ≡ replicate (g .b) 0
-  unfolding deciphered
-  deciphered-unmapped l = rw (le-ltb _ _ l)
 
 module _ (device maps owners : List ℕ) (s : Session) (i a : ℕ) where
   pub read-refused : (room n : ℕ) → n ≡ readRefusal (length device) maps owners s i a room → 0 < n

@@ -1,32 +1,19 @@
--- Laws of a slice that is claimed: the place and length of each data block. Assumes nothing.
+-- Laws of a slice that is claimed: what each data block holds, and its place. Assumes nothing.
 use Prim.Native.Nat.{ℕ, _+_, _-_, _*_, _≤_, _<_}
-use mathlib.Core.Path.{_≡_, refl, _∙_}
-use mathlib.Core.Bool.{Bool, true, false}
+use mathlib.Core.Path.{_≡_, refl}
 use mathlib.Core.List.{List}
 use native.Mathlib.Omega.{arith}
-use lib.Dec.{eqb}
-use lib.ListN.{length, replicate, length-replicate}
+use lib.ListN.{replicate}
 use borrow.Author.Tests.{eq-eqb, ne-eqb}
 use Rattle.ctr.specs.CounterMode.{ctr}
-use Rattle.ctr.proofs.Stream.{ctr-length}
 use Rattle.model.specs.declared.Geometry.{Geometry}
-use Rattle.model.specs.Parts.{choose, part}
+use Rattle.model.specs.Parts.{part}
 use Rattle.model.specs.Geometry.{Allowed, deviceLength, sliceStart, blockStart}
 use Rattle.model.proofs.Parts.{part-lent}
 use Rattle.model.proofs.Bounds.{block-fits}
-
--- Data block n of a claimed slice.
-abbrev pub claimedBlock : (b : ℕ) → (key ivs : List ℕ) → (j : ℕ) → (text : List ℕ) → (n : ℕ) → List ℕ
-claimedBlock b key ivs j text n = ctr key (part (16 * n) 16 ivs) (choose (eqb n j) text (replicate b 0))
+use Rattle.model.proofs.Blocks.{claimedBlock}
 
 module _ (b : ℕ) (key ivs : List ℕ) (j : ℕ) (text : List ℕ) where
-  pub claimedBlock-length : length text ≡ b → (n : ℕ) → length (claimedBlock b key ivs j text n) ≡ b
-  claimedBlock-length e n = ctr-length _ _ _ ∙ go (eqb n j)
-    where
-      go : (x : Bool) → length (choose x text (replicate b 0)) ≡ b
-      go true = e
-      go false = length-replicate b 0
-
   -- Under its IV, which is lent, block j is the text and any other is zeros.
   pub claimedBlock-text : (n : ℕ) → n ≡ j → ctr key (part (16 * n) (16 * n + 16 - 16 * n) ivs) text ≡ claimedBlock b key ivs j text n
   claimedBlock-text n e = rw (part-lent ivs (16 * n) 16 refl, eq-eqb n j e)

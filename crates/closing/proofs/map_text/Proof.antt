@@ -9,8 +9,9 @@ use Rattle.model.specs.Parts.{overlay, joined}
 use Rattle.model.specs.Geometry.{perBlock, fourBytes}
 use Rattle.model.proofs.Parts.{overlay-length}
 use Rattle.model.proofs.Bounds.{b-bounds, entries-small}
+use Rattle.model.proofs.MapBlocks.{entryBytes}
 use Rattle.places.proofs.Parts.{overlay-none}
-use Rattle.closing.proofs.MapBlocks.{entryBytes, mapText-turn, mapText-done}
+use Rattle.closing.proofs.MapBlocks.{mapText-turn, mapText-done}
 use Rattle.closing.proofs.map_text.Statement.{statement}
 use Rattle.closing.proofs.map_text.Tie as tie
 

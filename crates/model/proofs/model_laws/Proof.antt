@@ -1,8 +1,8 @@
 -- `model::model_laws` meets its contract. Assumes nothing.
 use native.Mathlib.Omega.{arith}
 use lib.Seq.{getD-set-same}
+use Rattle.model.proofs.Blocks.{claimed-block}
 use Rattle.model.proofs.Cells.{firstCell-lowest}
-use Rattle.model.proofs.Claimed.{claimed-block}
 use Rattle.model.proofs.model_laws.Statement.{statement}
 use Rattle.model.proofs.model_laws.Tie as tie
 

@@ -7,7 +7,7 @@ use lib.ListN.{length, replicate}
 use Rattle.ctr.specs.CounterMode.{ctr}
 use Rattle.model.proofs.Parts.{part-lent}
 use Rattle.model.proofs.Bounds.{iv-fits, block-fits}
-use Rattle.reading.proofs.Outcomes.{deciphered-mapped, deciphered-unmapped}
+use Rattle.model.proofs.Blocks.{deciphered-mapped, deciphered-unmapped}
 use Rattle.reading.proofs.decipher.Statement.{statement}
 use Rattle.reading.proofs.decipher.Tie as tie
 

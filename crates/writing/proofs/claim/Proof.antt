@@ -11,8 +11,9 @@ use Rattle.model.specs.Geometry.{deviceLength}
 use Rattle.model.specs.Write.{claimedBytes}
 use Rattle.model.proofs.Parts.{part-lent-length, overlay-length}
 use Rattle.model.proofs.Bounds.{b-bounds, deviceLength-small, iv-within}
+use Rattle.model.proofs.Blocks.{claimedBlock, claimedBlock-length}
 use Rattle.places.proofs.Parts.{overlay-append, overlay-none, overlay-joined}
-use Rattle.writing.proofs.Claims.{claimedBlock, claimedBlock-length, claimedBlock-text, claimedBlock-zeros, claimedBlock-fits}
+use Rattle.writing.proofs.Claims.{claimedBlock-text, claimedBlock-zeros, claimedBlock-fits}
 use Rattle.writing.proofs.claim.Statement.{statement}
 use Rattle.writing.proofs.claim.Tie as tie
 
