@@ -2,7 +2,7 @@
 // again, and every answer is printed. Keys, IVs and tape are fixed bytes here, so that each run prints the same; a real
 // device draws them at random.
 ghost use mathlib.Core.Path.{_≡_};
-ghost use Prim.Native.Nat.{_+_, _*_, _≤_, _<_};
+ghost use Prim.Native.Nat.{_+_, _*_, _<_};
 ghost use lib.ListN.{length};
 use libc::STDOUT_FILENO;
 use model::Change;

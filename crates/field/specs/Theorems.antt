@@ -1,7 +1,7 @@
 -- What is proved of the field and the S-box beside the contracts. Assumes nothing.
 use Prim.Native.Nat.{ℕ, _<_}
 use mathlib.Core.Path.{_≡_}
-use mathlib.Core.List.{List, [], _∷_}
+use mathlib.Core.List.{[], _∷_}
 use Rattle.field.specs.Field.{times, inverse}
 use Rattle.field.specs.Sbox.{sbox}
 

@@ -12,7 +12,7 @@ ghost use Rattle.field.specs.Sbox.{IsSbox};
 ghost use Rattle.ghash.specs.Hash.{ghash};
 ghost use Rattle.refusals.specs.Numbers.{answerNumber, unlessRefused};
 ghost use Rattle.gcm.specs.Gcm.{subkey, hashInput, tagUnder, gcmTag, gcmText, same, gcmOpen};
-ghost use Rattle.gcm.specs.Call.{gcmRefusal, sealRefusal, openRefusal, openedNumber, openedOver};
+ghost use Rattle.gcm.specs.Call.{gcmRefusal, sealRefusal, openRefusal, openedOver};
 ghost use Rattle.gcm.specs.Theorems.{GcmLaws};
 use block::Block;
 use refusals::Answer;

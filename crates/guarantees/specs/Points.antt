@@ -1,17 +1,16 @@
 -- The three points of the mission, as statements about the model. Assumes nothing.
-use Prim.Native.Nat.{ℕ, suc, _+_, _*_, _≤_, _<_}
+use Prim.Native.Nat.{ℕ, _+_, _*_, _≤_, _<_}
 use mathlib.Core.Path.{_≡_}
 use mathlib.Core.List.{List}
 use mathlib.Core.Bool.{true}
 use lib.ListN.{length, getD}
-use Rattle.gcm.specs.Gcm.{Text, WrongTag}
 use Rattle.model.specs.declared.Geometry.{Geometry}
 use Rattle.model.specs.declared.Session.{Session}
 use Rattle.model.specs.declared.Change.{Change}
 use Rattle.model.specs.Parts.{part, patched}
 use Rattle.model.specs.Geometry.{cellOf, headerOf, sliceStart, sliceSize}
 use Rattle.model.specs.Session.{Held, held, Outcome, idle, geometry, keyOf, blockCount, entry, sliceOf, offsetOf, unmapped}
-use Rattle.model.specs.Opening.{OpenOutcome, OpenTo, openModel, openCell, openHeader, vekOf, vmkBelow, storedEntry}
+use Rattle.model.specs.Opening.{OpenOutcome, OpenTo, openModel, storedEntry}
 use Rattle.model.specs.Read.{ReadResult, Filled, readModel, blockOf, deciphered}
 use Rattle.model.specs.Write.{WriteResult, writeModel}
 use Rattle.model.specs.Close.{CloseResult, closeModel}

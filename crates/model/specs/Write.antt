@@ -1,5 +1,5 @@
 -- Write (document 01, "Write"). A write looks at no byte of the device, only at its length. Assumes nothing.
-use Prim.Native.Nat.{ℕ, zero, suc, _+_, _-_, _*_}
+use Prim.Native.Nat.{ℕ, suc, _+_, _-_, _*_}
 use mathlib.Core.List.{List, [], _∷_, _++_}
 use mathlib.Core.Bool.{Bool, true, false, not}
 use lib.ListN.{length, getD, set, replicate, drop}
@@ -11,7 +11,7 @@ use Rattle.model.specs.declared.Change.{Change}
 use Rattle.model.specs.declared.Change.the-variants.{Claimed, Rewritten}
 use Rattle.model.specs.declared.Search.{Search}
 use Rattle.model.specs.declared.Search.the-variants.{Free, Bad, Full}
-use Rattle.model.specs.Parts.{choose, part, joined, Patch}
+use Rattle.model.specs.Parts.{choose, part, joined}
 use Rattle.model.specs.Geometry.{sliceStart, ivStart, blockStart}
 use Rattle.model.specs.Session.{Held, Outcome, geometry, keyOf, slot, sliceOf, offsetOf, entryOf, standing, asked, short, unless, idle}
 

@@ -4,7 +4,7 @@
 // `write_by`, which does the work. All tests come before the first byte is written and before the position moves: they are
 // `deciding::decide`.
 ghost use mathlib.Core.Path.{_≡_};
-ghost use Prim.Native.Nat.{_+_, _*_, _≤_, _<_};
+ghost use Prim.Native.Nat.{_+_, _*_, _<_};
 ghost use lib.ListN.{length};
 ghost use Rattle.ctr.specs.CounterMode.{ctr};
 ghost use Rattle.model.specs.Parts.{overlay};

@@ -1,5 +1,5 @@
 -- `block::block_bytes` meets its contract: the bytes of the halves, one after the other. Assumes nothing.
-use mathlib.Core.Path.{_≡_, sym, _∙_}
+use mathlib.Core.Path.{sym, _∙_}
 use native.Mathlib.Nat.{div-one}
 use borrow.Author.Needs.{needs}
 use Rattle.block.specs.Bytes.{bigEndian}

@@ -1,7 +1,6 @@
 -- `ghash::absorb` meets its contract. The blocks that are left, from r, give the hash. Assumes nothing.
 use mathlib.Core.Path.{_≡_, sym, ap, _∙_}
-use Prim.Native.Nat.{ℕ, suc, _+_, _-_, _/_, _%_, _≤_}
-use mathlib.Core.List.{List}
+use Prim.Native.Nat.{suc, _+_, _-_, _/_, _%_, _≤_}
 use native.Mathlib.Omega.{arith}
 use borrow.Author.Needs.{needs}
 use lib.ListN.{length, drop}

@@ -6,17 +6,15 @@ use native.Mathlib.Omega.{arith}
 use lib.ListN.{length}
 use borrow.Author.Needs.{needs}
 use Rattle.model.specs.declared.Geometry.{Geometry}
-use Rattle.model.specs.declared.Change.the-variants.{Claimed}
 use Rattle.model.specs.Parts.{part, patched}
 use Rattle.model.specs.Session.{Held, held, keyOf, slot, sliceOf}
-use Rattle.model.specs.Write.{Served}
 use Rattle.model.specs.Answers.{writeResult}
 use Rattle.model.proofs.Parts.{part-length, part-lent, part-lent-length}
 use Rattle.model.proofs.Bounds.{offsetOf-lt}
 use Rattle.model.proofs.Requests.{Writable, writeRefusal-none}
 use Rattle.reading.proofs.Outcomes.{asked-slot}
 use Rattle.deciding.specs.declared.Decision.{Decision}
-use Rattle.deciding.specs.declared.Decision.the-variants.{Refused, Rewrite, Claim}
+use Rattle.deciding.specs.declared.Decision.the-variants.{Rewrite, Claim}
 use Rattle.deciding.specs.Decided.{Decided}
 use Rattle.writing.proofs.write_by.Statement.{statement}
 use Rattle.writing.proofs.write_by.Tie as tie
