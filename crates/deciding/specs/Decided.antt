@@ -10,14 +10,15 @@ use Rattle.model.specs.Write.{WriteResult, rewritten, claimed, writeRefusal, wr
 use Rattle.deciding.specs.declared.Decision.{Decision}
 use Rattle.deciding.specs.declared.Decision.the-variants.{Refused, Rewrite, Claim}
 
--- A write that is served: what it comes to, with what its code needs: nothing refuses it, its slice is one, and the tape
--- has the bytes.
+-- A write that is served: what the model gives for it, and what carrying it out needs: no refusal applies, the slice is below
+-- P, and the tape has the bytes.
 pub record Serves (device : ℕ) (h : Held) (i a : ℕ) (text perm tape : List ℕ) (o : Outcome WriteResult) (ψ need : ℕ) : Type 0 where
   pub outcome : writeModel device h i a text perm tape ≡ o
   pub none : writeRefusal device (h .maps) (h .owners) (h .session) i a (length text) (length perm) ≡ 0
   pub slice : ψ < geometry h .p
   pub enough : Enough (length tape) (h .position) need
 
+-- Refused: the model refuses with this number and count. Rewrite and Claim: the model serves with this slice.
 abbrev pub Decided : (device : ℕ) → Held → (i a : ℕ) → (text perm tape : List ℕ) → Decision → Type 0
 Decided device h i a text perm tape (Refused r probes) =
     writeModel device h i a text perm tape ≡ idle h (WriteResult.Refused (refusalNumber r) probes)

@@ -18,7 +18,7 @@ use Rattle.walk.specs.Frames.{Stepped, served}
 use Rattle.walk.specs.Lines.{Reader, Fed}
 
 -- The state that numbers and lent memory stand for: the tables are the first entries of the memory, and there is a
--- permutation once a frame 02 is accepted. What else the memory holds is nobody's.
+-- permutation once a frame 02 is accepted. The rest of the memory is not part of the state.
 abbrev pub stateOf : Walk → (maps owners perm : List ℕ) → State
 stateOf w maps owners perm =
     record {

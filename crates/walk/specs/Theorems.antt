@@ -17,6 +17,7 @@ unfoldable pub answers : State → (lines : List (List ℕ)) → List (List ℕ)
 answers w [] = []
 answers w (line ∷ lines) = step w line .answer ∷ answers (step w line .state) lines
 
+-- The input of the example (document 01, "The walk program"), and the bytes of its output.
 abbrev pub exampleLines : List (List ℕ)
 exampleLines =
     digits (0x01 ∷ 0x04 ∷ 0x00 ∷ 0x00 ∷ 0x04 ∷ 0x00 ∷ 0x04 ∷ [])
@@ -60,7 +61,7 @@ pub record WalkLaws : Type 0 where
   pub listed : (w : State) (line : List ℕ) → Reached w → Listed (step w line .answer)
   -- Of a piece of input at least one byte is taken, and no more than it has.
   pub takes : (r : Reader) (piece : List ℕ) → 0 < length piece → (0 < feed r piece .taken) × (feed r piece .taken ≤ length piece)
-  -- Every input can be read, so that what follows is not said of nothing.
+  -- Every input can be read, so that the next law speaks of every input.
   pub reads : (input : List ℕ) → Reads (record { state = start; line = [] }) input (walk input)
   -- In whatever pieces the input comes, the output is that of its lines.
   pub pieces : (input output : List ℕ) → Reads (record { state = start; line = [] }) input output → output ≡ walk input
