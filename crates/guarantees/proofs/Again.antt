@@ -126,7 +126,7 @@ module _ (s : List ℕ) (x : Handed) (l : Lent) (k : ℕ) (sv : Served s x l k) 
         apart m hm less n n<m e =
             let hn : n < (k + 1) * g .p = omega arith in
             let q =
-            op .sound .once (m / g .p) (m % g .p) (n / g .p) (n % g .p) (row m hm) (row n hn) (column m) (column n)
+            op .sound .apart .once (m / g .p) (m % g .p) (n / g .p) (n % g .p) (row m hm) (row n hn) (column m) (column n)
             (rw (entries-are m hm) at less) (sym (entries-are m hm) ∙ sym e ∙ entries-are n hn) in
             let m≡n : m ≡ n = sym (div-add-mod' m (g .p)) ∙ ap₂ (λ (a b : ℕ). a * g .p + b) (q .0) (q .1) ∙ div-add-mod' n (g .p) in
             omega arith

@@ -1,24 +1,24 @@
 -- Each call is served, or refused by the first rule that holds. Assumes nothing.
 use Prim.Native.Nat.{ℕ, suc, _+_, _*_, _≤_, _<_}
 use mathlib.Core.Path.{_≡_, refl}
-use mathlib.Core.Logic.{inl, inr}
+use mathlib.Core.Logic.{inl, inr, ⊎-elim}
 use mathlib.Core.List.{List, _++_}
-use native.Mathlib.Nat.{mul-le-mul-right}
+use native.Mathlib.Nat.{sub-zero, mul-le-mul-right}
 use native.Mathlib.Omega.{arith}
 use lib.ListN.{length}
 use Rattle.model.specs.declared.Geometry.{Geometry}
 use Rattle.model.specs.declared.Session.{Session}
-use Rattle.model.specs.declared.Change.the-variants.{Claimed, Rewritten}
 use Rattle.model.specs.Geometry.{Allowed, deviceLength, headerOf}
-use Rattle.model.specs.Session.{Held, Outcome, geometry, unmapped}
+use Rattle.model.specs.Session.{Held, Outcome, geometry, entryOf, unmapped, noKeys}
 use Rattle.model.specs.Opening.{Cell, Chain, mapEntries, Loaded, openRefusal, OpenOutcome, allKeys, withTables, withKeys, withCell, openModel}
-use Rattle.model.specs.Read.{readRefusal, readModel}
+use Rattle.model.specs.Read.{ReadResult, deciphered, readRefusal, readModel, findModel}
 use Rattle.model.specs.Write.{WriteResult, writeModel}
-use Rattle.model.specs.Close.{closeRefusal, closed, closeModel}
-use Rattle.guarantees.specs.Rules.{Rule, First, SearchEnds, openRules}
+use Rattle.model.specs.Close.{CloseResult, closeRefusal, closeModel}
+use Rattle.guarantees.specs.Rules.{Rule, First, SearchEnds, heldEntry, openRules}
 use Rattle.guarantees.specs.Openings.{Lowest, AllUnlocked, OpenAnswered, handed-wrong, no-cell, header-tag, header-geometry, bad-entry, slice-twice}
-use Rattle.guarantees.specs.Arrays.{heldEntry}
-use Rattle.guarantees.specs.Points.{ReadAnswered, WriteAnswered, CloseAnswered}
+use Rattle.guarantees.specs.Points.{ReadAnswered, FindAnswered, WriteAnswered, CloseAnswered}
+use Rattle.model.proofs.Requests.{readRefusal-none}
+use Rattle.guarantees.proofs.Reflects.{ltb-reflects, choose-reflects}
 use Rattle.guarantees.proofs.Chains.{Leads, here, later, none, leads-first, leads-append, none-leads}
 use Rattle.guarantees.proofs.Orders.{earlyRules, open-leads, read-leads, write-leads, close-leads}
 use Rattle.guarantees.proofs.Search.{search-ends, free-not-bad, free-not-full, full-not-bad}
@@ -27,31 +27,47 @@ use Rattle.guarantees.proofs.Unlocks.{CellsEnd, lowest, nowhere, firstC
 use Rattle.guarantees.proofs.Tables.{LoadEnds, loaded, bad, twice, holds-sound, load-ends}
 use Rattle.guarantees.proofs.Opened.{openRefusal-none}
 
--- ---- read and close
+-- ---- read, find and close
+
+-- Where no refusal applies the asked entry is a slice or the mark.
+module _ (device maps owners : List ℕ) (s : Session) (i a room : ℕ) (e : readRefusal (length device) maps owners s i a room ≡ 0) where
+  entry-unmapped : (entryOf maps (s .geometry) i a < s .geometry .p → ⊥) → entryOf maps (s .geometry) i a ≡ unmapped
+  entry-unmapped out = ⊎-elim (λ u. u) (λ l. absurd (out l)) (readRefusal-none (length device) maps owners s i a room e .asked .mapped)
 
 pub read-answered : (device maps owners : List ℕ) (s : Session) (i a room : ℕ)
     → ReadAnswered device maps owners s i a room (readModel device maps owners s i a room)
-unfolding readModel
+unfolding readModel deciphered
 read-answered device maps owners s i a room =
     let q = read-leads (length device) maps owners s i a room in
-    unless-cases (ReadAnswered device maps owners s i a room) (readRefusal (length device) maps owners s i a room) _ _
+    let Answered = ReadAnswered device maps owners s i a room in
+    unless-cases Answered (readRefusal (length device) maps owners s i a room) _ _
     (λ r e. ReadAnswered.refused (suc r) (omega arith) (leads-first (rw e at q)))
-    (λ e. ReadAnswered.served (leads-first (rw e at q)))
+    (λ e. choose-reflects (λ (bytes : List ℕ). Answered (ReadResult.Filled bytes)) _ _ (ltb-reflects (entryOf maps (s .geometry) i a) (s .geometry .p))
+    (ReadAnswered.mapped (leads-first (rw e at q)))
+    (λ out. ReadAnswered.zeros (leads-first (rw e at q)) (entry-unmapped device maps owners s i a room e out)))
 
-pub close-answered : (device : ℕ) (h : Held) (tape : List ℕ) → CloseAnswered device h tape (closeModel device h tape)
+pub find-answered : (device maps owners : List ℕ) (s : Session) (i a : ℕ)
+    → FindAnswered device maps owners s i a (findModel device maps owners s i a)
+unfolding findModel
+find-answered device maps owners s i a =
+    let q = read-leads (length device) maps owners s i a (s .geometry .b) in
+    unless-cases (FindAnswered device maps owners s i a) (readRefusal (length device) maps owners s i a (s .geometry .b)) _ _
+    (λ r e. FindAnswered.refused (suc r) (omega arith) (leads-first (rw e at q)))
+    (λ e. choose-reflects (FindAnswered device maps owners s i a) _ _ (ltb-reflects (entryOf maps (s .geometry) i a) (s .geometry .p))
+    (FindAnswered.mapped (leads-first (rw e at q)))
+    (λ out. FindAnswered.nowhere (leads-first (rw e at q)) (entry-unmapped device maps owners s i a (s .geometry .b) e out)))
+
+pub close-answered : (device : ℕ) (h : Held) (tape : List ℕ) → CloseAnswered device h tape (closeModel device h tape .answer)
 unfolding closeModel
 close-answered device h tape =
     let q = close-leads device h (length tape) in
-    unless-cases (CloseAnswered device h tape) (closeRefusal device h (length tape)) _ _
+    unless-cases (λ (o : Outcome CloseResult). CloseAnswered device h tape (o .answer)) (closeRefusal device h (length tape)) _ _
     (λ r e. CloseAnswered.refused (suc r) (omega arith) (leads-first (rw e at q)))
-    (λ e. CloseAnswered.served (closed h tape) refl (leads-first (rw e at q)))
+    (λ e. CloseAnswered.served (leads-first (rw e at q)))
 
 -- ---- write
 
 module _ (device : ℕ) (h : Held) (i a : ℕ) (text perm tape : List ℕ) where
-  abbrev Answered : Outcome WriteResult → Type 0
-  Answered = WriteAnswered device h i a text perm tape
-
   ends : (n : ℕ) × SearchEnds (h .owners) (geometry h .p) perm n
   ends = search-ends (h .owners) (geometry h .p) perm
 
@@ -67,21 +83,21 @@ module _ (device : ℕ) (h : Held) (i a : ℕ) (text perm tape : List ℕ) where
     mark-not-slice : {A : Type 0} → heldEntry h i a ≡ unmapped → (heldEntry h i a < geometry h .p) × A → ⊥
     mark-not-slice u x = omega (arith, u, x .0, w .stands .usable .allowed .slices-most)
 
-  pub write-answered : Answered (writeModel device h i a text perm tape)
+  pub write-answered : WriteAnswered device h i a text perm tape (writeModel device h i a text perm tape .answer)
   write-answered =
-      write-cases device h i a text perm tape Answered
+      write-cases device h i a text perm tape (λ (o : Outcome WriteResult). WriteAnswered device h i a text perm tape (o .answer))
       (λ r e. WriteAnswered.refused (ends .0) (suc r) 0 (omega arith) (ends .1)
       (leads-first (leads-append _ (omega arith) (rw e at (write-leads device h i a (length text) (length perm))))))
       (λ w l lacking. WriteAnswered.refused (ends .0) 21 0 (omega arith) (ends .1) (late w (here (l, lacking) refl refl)))
-      (λ w l enough. WriteAnswered.served (ends .0) 0 (Rewritten (heldEntry h i a)) _ refl (ends .1)
-      (late w (later (λ x. x .1 enough) (later (slice-not-mark w l) (later (slice-not-mark w l) (later (slice-not-mark w l) none))))))
+      (λ w l enough. WriteAnswered.rewritten (ends .0) (ends .1)
+      (late w (later (λ x. x .1 enough) (later (slice-not-mark w l) (later (slice-not-mark w l) (later (slice-not-mark w l) none))))) l)
       (λ w u n f. WriteAnswered.refused n 5 _ (omega arith) (inr (inl f)) (late w (later (mark-not-slice w u) (here (u, f) refl (omega arith)))))
       (λ w u f. WriteAnswered.refused 0 22 _ (omega arith) (inr (inr f))
       (late w (later (mark-not-slice w u) (later (λ x. full-not-bad _ _ _ 0 f (x .1)) (here (u, f) refl (omega arith))))))
       (λ w u n f lacking. WriteAnswered.refused n 21 _ (omega arith) (inl f) (late w (later (mark-not-slice w u)
       (later (λ x. free-not-bad _ _ _ n f (x .1)) (later (λ x. free-not-full _ _ _ n f (x .1)) (here (u, lacking) refl (omega arith)))))))
-      (λ w u ψ n f q enough. WriteAnswered.served n _ (Claimed ψ) _ refl (inl f) (late w (later (mark-not-slice w u)
-      (later (λ x. free-not-bad _ _ _ n f (x .1)) (later (λ x. free-not-full _ _ _ n f (x .1)) (later (λ x. x .1 enough) none))))))
+      (λ w u ψ n f q enough. rw (← q, sub-zero) (WriteAnswered.claimed n f (late w (later (mark-not-slice w u)
+      (later (λ x. free-not-bad _ _ _ n f (x .1)) (later (λ x. free-not-full _ _ _ n f (x .1)) (later (λ x. x .1 enough) none))))) u))
 
 -- ---- opening
 
@@ -101,14 +117,14 @@ module _ (device : List ℕ) (g : Geometry) (key maps owners perm : List ℕ) wh
 
       withTables-answered : (keys : List ℕ) → AllUnlocked device g k top keys → {l : Loaded}
           → LoadEnds (g .p) (mapEntries g header keys) ((k + 1) * g .p) l → Opens (withTables g k keys l)
-      unfolding withTables
+      unfolding withTables noKeys
       withTables-answered keys all (loaded ms os holds) =
           OpenAnswered.served first k top _ low all (holds-sound (g .p) (mapEntries g header keys) ((k + 1) * g .p) ms os room holds) refl
       withTables-answered keys all (bad n l sound other out) = bad-entry first k top keys low all n l sound other out
       withTables-answered keys all (twice n l sound slice m m<n same) = slice-twice first k top keys low all n l sound slice m m<n same
 
       withKeys-answered : {c : Chain} → ChainEnds device g k top c → Opens (withKeys g header k c)
-      unfolding withKeys
+      unfolding withKeys noKeys
       withKeys-answered (whole keys u) =
           withTables-answered (allKeys keys k) (allKeys-unlocked device g k top keys u)
           (load-ends (g .p) (mapEntries g header (allKeys keys k)) ((k + 1) * g .p) (omega (arith, ok .slices-most)) room)
@@ -116,12 +132,12 @@ module _ (device : List ℕ) (g : Geometry) (key maps owners perm : List ℕ) wh
       withKeys-answered (misfit i vmk text reached e f) = header-geometry first k top low i vmk text reached e f
 
     withCell-answered : {c : Cell} → CellsEnd device key c → Opens (withCell g header c)
-    unfolding withCell
+    unfolding withCell noKeys
     withCell-answered (lowest k top low) = withKeys-answered k top low (chain-ends device g k top ok long (low .top))
     withCell-answered (nowhere shut) = no-cell first shut
 
   pub open-answered : Opens (openModel device g key maps owners perm)
-  unfolding openModel
+  unfolding openModel noKeys
   open-answered =
       let q = open-leads g (length device) (length key) (length maps) (length owners) perm in
       unless-cases Opens (openRefusal g (length device) (length key) (length maps) (length owners) perm) _ _

@@ -13,8 +13,7 @@ use Rattle.model.specs.Write.{firstFree, startPlace, probesTo, WriteResult, rew
 use Rattle.model.specs.Close.{closeNeed, closeRefusal, CloseResult, closed, closeModel}
 use Rattle.model.specs.Conditions.{Enough}
 use Rattle.model.proofs.Requests as requests
-use Rattle.guarantees.specs.Rules.{sliceAt, AllHeld, FirstFree, FirstBad, askedRules}
-use Rattle.guarantees.specs.Arrays.{heldEntry}
+use Rattle.guarantees.specs.Rules.{sliceAt, AllHeld, FirstFree, FirstBad, heldEntry, askedRules}
 use Rattle.guarantees.proofs.Reflects.{ltb-reflects, choose-reflects, choose-refutes}
 use Rattle.guarantees.proofs.Chains.{None}
 use Rattle.guarantees.proofs.Orders.{short-refutes, earlyRules}

@@ -7,9 +7,10 @@ use native.Mathlib.Omega.{arith}
 use lib.ListN.{length, getD}
 use lib.Seq.{getD-set-same, getD-set-other}
 use lib.Arith.{digits-lt}
-use Rattle.model.specs.Session.{Held, geometry, slot}
+use Rattle.model.specs.Session.{Held, geometry, slot, unmapped}
 use Rattle.model.specs.Write.{claimed}
 use Rattle.model.proofs.Tests.{equal}
+use Rattle.guarantees.specs.Points.{Maps}
 use Rattle.guarantees.proofs.Sound.{Sound, OpenVolume, tableEntry}
 use Rattle.guarantees.proofs.Blocks.{same-slot}
 use Rattle.guarantees.proofs.Cases.{Stands}
@@ -40,25 +41,43 @@ module _ (n : ℕ) (h : Held) (i σ j ψ place : ℕ) (text tape : List ℕ) (st
   module _ (sound : Sound h) (hψ : ψ < geometry h .p) (free : getD (h .owners) ψ 0 ≡ 0) where
     -- No open volume had the claimed slice.
     pub claimed-new : (v τ : ℕ) → OpenVolume h v → τ < geometry h .p → tableEntry h v τ ≡ ψ → ⊥
-    claimed-new v τ ov hτ e = sound .taken v τ ov hτ (rw e hψ) (ap (λ (x : ℕ). getD (h .owners) x 0) e ∙ free)
+    claimed-new v τ ov hτ e = omega (arith, sound .apart .owner v ψ ov hψ (τ, hτ, e), free)
 
-    owner-here : getD (h′ .owners) ψ 0 ≡ 0 → ⊥
-    owner-here e = let z : i + 1 ≡ 0 = sym (getD-set-same (h .owners) ψ (i + 1) 0 (rw (st .tables .1) hψ)) ∙ e in absurd (omega arith)
+    -- The owner of another slice stays.
+    owner-other : (φ : ℕ) → (φ ≡ ψ → ⊥) → getD (h′ .owners) φ 0 ≡ getD (h .owners) φ 0
+    owner-other φ ne = getD-set-other (h .owners) ψ φ (i + 1) 0 ne
 
-    pub claimed-sound : Sound h′
-    claimed-sound =
+    pub claimed-sound : tableEntry h i σ ≡ unmapped → Sound h′
+    claimed-sound un =
         record {
           whole = λ v τ ov hτ. ⊎-elim (λ c. inr (rw (c .2) hψ)) (λ c. rw (c .1) (sound .whole v τ ov hτ)) (claimed-entry-cases v τ hτ);
-          once = λ v τ w υ ov ow hτ hυ l e.
-              ⊎-elim
-              (λ c. ⊎-elim (λ d. (c .0 ∙ sym (d .0), c .1 ∙ sym (d .1)))
-              (λ d. absurd (claimed-new w υ ow hυ (sym (d .1) ∙ sym e ∙ c .2))) (claimed-entry-cases w υ hυ))
-              (λ c. ⊎-elim (λ d. absurd (claimed-new v τ ov hτ (sym (c .1) ∙ e ∙ d .2)))
-              (λ d. sound .once v τ w υ ov ow hτ hυ (rw (c .1) at l) (sym (c .1) ∙ e ∙ d .1)) (claimed-entry-cases w υ hυ))
-              (claimed-entry-cases v τ hτ);
-          taken = λ v τ ov hτ l z.
-              ⊎-elim (λ c. owner-here (rw (c .2) at z))
-              (λ c. sound .taken v τ ov hτ (rw (c .1) at l)
-              (sym (getD-set-other (h .owners) ψ (tableEntry h v τ) (i + 1) 0 (claimed-new v τ ov hτ)) ∙ (rw (c .1) at z)))
-              (claimed-entry-cases v τ hτ);
+          apart = record { once = once; owner = owner; free = none-free };
         }
+      where
+        once : (v τ w υ : ℕ) → OpenVolume h v → OpenVolume h w → τ < geometry h .p → υ < geometry h .p → tableEntry h′ v τ < geometry h .p
+            → tableEntry h′ v τ ≡ tableEntry h′ w υ → (v ≡ w) × (τ ≡ υ)
+        once v τ w υ ov ow hτ hυ l e =
+            ⊎-elim
+            (λ c. ⊎-elim (λ d. (c .0 ∙ sym (d .0), c .1 ∙ sym (d .1)))
+            (λ d. absurd (claimed-new w υ ow hυ (sym (d .1) ∙ sym e ∙ c .2))) (claimed-entry-cases w υ hυ))
+            (λ c. ⊎-elim (λ d. absurd (claimed-new v τ ov hτ (sym (c .1) ∙ e ∙ d .2)))
+            (λ d. sound .apart .once v τ w υ ov ow hτ hυ (rw (c .1) at l) (sym (c .1) ∙ e ∙ d .1)) (claimed-entry-cases w υ hυ))
+            (claimed-entry-cases v τ hτ)
+
+        owner : (v φ : ℕ) → OpenVolume h v → φ < geometry h .p → Maps (tableEntry h′) (geometry h .p) v φ → getD (h′ .owners) φ 0 ≡ v + 1
+        owner v φ ov hφ m =
+            ⊎-elim
+            (λ c. rw (sym (m .2) ∙ c .2, c .0) (getD-set-same (h .owners) ψ (i + 1) 0 (rw (st .tables .1) hψ)))
+            (λ c. let was = sym (c .1) ∙ m .2 in
+            owner-other φ (λ e. claimed-new v (m .0) ov (m .1) (was ∙ e)) ∙ sound .apart .owner v φ ov hφ (m .0, m .1, was))
+            (claimed-entry-cases v (m .0) (m .1))
+
+        none-free : (φ : ℕ) → φ < geometry h .p → ((v : ℕ) → OpenVolume h v → Maps (tableEntry h′) (geometry h .p) v φ → ⊥)
+            → getD (h′ .owners) φ 0 ≡ 0
+        none-free φ hφ none =
+            owner-other φ (λ e. none i oi (σ, hσ, claimed-entry ∙ sym e))
+            ∙ sound .apart .free φ hφ (λ v ov m.
+            ⊎-elim
+            (λ c. let was : φ ≡ unmapped = sym (m .2) ∙ ap₂ (tableEntry h) (c .0) (c .1) ∙ un in
+            omega (arith, st .usable .allowed .slices-most))
+            (λ c. none v ov (m .0, m .1, c .1 ∙ m .2)) (claimed-entry-cases v (m .0) (m .1)))

@@ -1,4 +1,4 @@
--- What a close stores in the map blocks deciphers to the entries held. Assumes nothing.
+-- What a close stores in the map blocks is what the statements say, and deciphers to the entries held. Assumes nothing.
 use Prim.Native.Nat.{ℕ, zero, suc, _+_, _-_, _*_, _/_, _%_, _^_, _≤_, _<_}
 use mathlib.Core.Path.{_≡_, refl, sym, ap, ap₂, _∙_}
 use mathlib.Core.List.{List, [], _∷_, _++_}
@@ -15,58 +15,26 @@ use Rattle.block.proofs.Bytes.{number-bigEndian, bigEndian-length}
 use Rattle.ctr.specs.CounterMode.{ctr}
 use Rattle.ctr.proofs.Stream.{ctr-twice, ctr-length}
 use Rattle.model.specs.declared.Geometry.{Geometry}
-use Rattle.model.specs.Parts.{choose, part, overlay, patched}
+use Rattle.model.specs.Parts.{choose, part, overlay, Patch, patched}
 use Rattle.model.specs.Geometry.{perBlock, mapBlocks, deviceLength, numberAt, fourBytes, headerStart, headerOf, mapStart, Allowed}
 use Rattle.model.specs.Session.{Held, geometry, keyOf, entry, unmapped}
 use Rattle.model.specs.Opening.{storedEntry}
 use Rattle.model.specs.Close.{mapText, mapBlock, mapBytes, mapPatches}
 use Rattle.model.specs.Conditions.{EntryFits, Enough}
 use Rattle.guarantees.specs.Runs.{Range, mapRanges}
+use Rattle.guarantees.specs.Effects.{mapStored, mapsStored}
 use Rattle.model.proofs.Parts.{part-length, part-left, part-right, part-part, overlay-before, overlay-within, joined-length, joined-part}
-use Rattle.model.proofs.Parts.{joined-piece, patched-++}
+use Rattle.model.proofs.Parts.{joined-ext, joined-piece, patched-++}
 use Rattle.model.proofs.Bounds.{b-bounds, perBlock-least, mapBlock-of, maps-fit}
-use Rattle.model.proofs.MapBlocks.{mapText-length, mapBlock-length}
+use Rattle.model.proofs.MapBlocks.{mapBlock-length, mapBlock-row}
+use Rattle.model.proofs.Seals.{sealed-entry}
 use Rattle.guarantees.proofs.Patches.{rangesOf, ranges-++, patched-length}
 use Rattle.guarantees.proofs.Places.{Apart, overlay-apart}
 
 -- ---- one map block
 
-fourBytes-number : (x : ℕ) → x < 256 ^ 4 → number (fourBytes x) ≡ x
-fourBytes-number x l = number-bigEndian 0 4 x ∙ zero-add (x % 256 ^ 4) ∙ mod-eq-of-lt l
-
 module _ (maps : List ℕ) (g : Geometry) (ok : Allowed g) where
-  abbrev c : ℕ
-  c = perBlock g
-
-  -- The number stored at place e of block t.
-  abbrev stored : ℕ → ℕ → ℕ → ℕ
-  stored i t e = choose (ltb (t * c + e) (g .p)) (entry maps g i (t * c + e)) unmapped
-
-  mapText-entry : (i σ : ℕ) → σ < g .p → EntryFits g (entry maps g i σ) → numberAt (4 * (σ % c)) (mapText maps g i (σ / c)) ≡ entry maps g i σ
-  unfolding mapText
-  mapText-entry i σ l fits =
-      ap (λ (y : ℕ). number (part y 4 (mapText maps g i (σ / c)))) (mul-comm 4 (σ % c))
-      ∙ ap number
-      (joined-part 4 c (λ e. fourBytes (stored i (σ / c) e)) (λ e k. bigEndian-length 4 (stored i (σ / c) e)) (σ % c) (mod-lt σ (perBlock-least g ok)))
-      ∙ ap (λ (y : ℕ). number (fourBytes y)) this
-      ∙ fourBytes-number (entry maps g i σ) (⊎-elim (λ e. omega arith) (λ e. omega (arith, ok .slices-most)) fits)
-    where
-      this : stored i (σ / c) (σ % c) ≡ entry maps g i σ
-      this = rw (div-add-mod' σ c, lt-ltb σ (g .p) l) refl
-
   module _ (key : List ℕ) (i : ℕ) where
-    -- A map block is its IV, then its text in counter mode.
-    mapBlock-iv : (t : ℕ) (iv : List ℕ) → length iv ≡ 16 → part 0 16 (mapBlock maps g key i t iv) ≡ iv
-    unfolding mapBlock
-    mapBlock-iv t iv e = part-left iv _ 0 16 (omega arith) ∙ take-all 16 iv (omega arith)
-
-    mapBlock-cipher : (t : ℕ) (iv : List ℕ) → length iv ≡ 16 → part 16 (g .b - 16) (mapBlock maps g key i t iv) ≡ ctr key iv (mapText maps g i t)
-    unfolding mapBlock
-    mapBlock-cipher t iv e =
-        ap (λ (y : ℕ). part y (g .b - 16) (mapBlock maps g key i t iv)) (sym (add-zero 16))
-        ∙ part-right iv (ctr key iv (mapText maps g i t)) 16 e 0 (g .b - 16)
-        ∙ take-all (g .b - 16) (ctr key iv (mapText maps g i t)) (omega (arith, ctr-length key iv (mapText maps g i t), mapText-length maps g i t ok))
-
     module _ (tape : List ℕ) (at : ℕ) (enough : Enough (length tape) at (16 * mapBlocks g)) where
       abbrev iv : ℕ → List ℕ
       iv t = part (at + 16 * t) 16 tape
@@ -117,6 +85,23 @@ module _ (h : Held) (tape : List ℕ) (ok : Allowed (geometry h)) (K : ℕ)
       ranges-++ (mapPatches h tape n) _
       ∙ ap₂ (λ (a b : List Range). a ++ b) (mapPatches-ranges n (omega arith))
       (ap (λ (x : ℕ). record { at = mapStart g₀ n; size = x } ∷ []) (bytes-length n l))
+
+  -- Block t of volume n has the bytes drawn from 16 × (m × n + t) on as its IV.
+  pub mapPatches-stored : (length (h .maps) ≡ 15 * g₀ .p) → K ≤ 15 → (n : ℕ) → n ≤ K
+      → mapPatches h tape n ≡ mapsStored h (part (h .position) (16 * m * K) tape) n
+  unfolding mapPatches mapBytes mapsStored
+  mapPatches-stored fits low zero l = refl
+  mapPatches-stored fits low (suc n) l =
+      ap₂ (λ (ps : List Patch) (b : List ℕ). ps ++ record { at = mapStart g₀ n; bytes = b } ∷ []) (mapPatches-stored fits low n (omega arith))
+      (joined-ext m _ _ (λ t lt.
+      mapBlock-row (h .maps) g₀ n t (omega (arith, mul-le-mul-right {m = n + 1} {n = 15} (g₀ .p) (omega arith))) (keyOf (h .session) n) _
+      ∙ ap (λ (iv : List ℕ). mapStored (h .maps) g₀ (keyOf (h .session) n) iv n t) (drawn-at t lt)))
+    where
+      drawn-at : (t : ℕ) → t < m → part (at n + 16 * t) 16 tape ≡ part (16 * (m * n + t)) 16 (part (h .position) (16 * m * K) tape)
+      drawn-at t lt =
+          let here : at n + 16 * t ≡ h .position + 16 * (m * n + t) = omega arith in
+          ap (λ (y : ℕ). part y 16 tape) here
+          ∙ sym (part-part tape (h .position) (16 * m * K) (16 * (m * n + t)) 16 (omega (arith, mul-le-mul-left m l)))
 
   module _ (s : List ℕ) (long : length s ≡ deviceLength g₀) (low : K ≤ 15) where
     maps-apart : (i n : ℕ) → i < n → mapStart g₀ i + g₀ .b * m ≤ mapStart g₀ n
@@ -172,27 +157,30 @@ module _ (h : Held) (tape : List ℕ) (ok : Allowed (geometry h)) (K : ℕ)
           ∙ after-part K (omega arith) i li (t * g₀ .b + x) u (omega (arith, mul-le-mul-left (g₀ .b) lt))
           ∙ mapBytes-part (h .maps) g₀ ok key i tape (at i) (left i li) t lt x u f
 
-      iv-at-length : length iv-at ≡ 16
-      iv-at-length = iv-length (h .maps) g₀ ok key i tape (at i) (left i li) t lt
-
-      header-iv : part (g₀ .b * (1 + t)) 16 header ≡ iv-at
-      header-iv =
-          ap (λ (y : ℕ). part y 16 header) (sym (add-zero (g₀ .b * (1 + t))))
-          ∙ header-part 0 16 (omega (arith, b-bounds g₀ ok))
-          ∙ mapBlock-iv (h .maps) g₀ ok key i t iv-at iv-at-length
-
-      header-cipher : part (g₀ .b * (1 + t) + 16) (g₀ .b - 16) header ≡ ctr key iv-at (mapText (h .maps) g₀ i t)
-      header-cipher =
-          header-part 16 (g₀ .b - 16) (omega (arith, b-bounds g₀ ok))
-          ∙ mapBlock-cipher (h .maps) g₀ ok key i t iv-at iv-at-length
+      -- The whole of it.
+      header-block : part (g₀ .b * (1 + t)) (g₀ .b) header ≡ mapBlock (h .maps) g₀ key i t iv-at
+      header-block =
+          ap (λ (y : ℕ). part y (g₀ .b) header) (sym (add-zero (g₀ .b * (1 + t))))
+          ∙ header-part 0 (g₀ .b) (omega arith)
+          ∙ take-all (g₀ .b) (mapBlock (h .maps) g₀ key i t iv-at)
+          (omega (arith, each-length (h .maps) g₀ ok key i tape (at i) (left i li) t lt))
 
     -- What is read back is what was held.
     pub storedEntry-back : (i σ : ℕ) → i < K → σ < g₀ .p → EntryFits g₀ (entry (h .maps) g₀ i σ)
         → storedEntry g₀ (keyOf (h .session) i) (headerOf g₀ (after K) i) σ ≡ entry (h .maps) g₀ i σ
-    unfolding storedEntry
+    unfolding mapBlock mapText
     storedEntry-back i σ li lσ fits =
-        let t = σ / perBlock g₀ in
+        let t = σ / c in
         let lt = mapBlock-of g₀ ok σ lσ in
-        ap₂ (λ (x y : List ℕ). numberAt (4 * (σ % perBlock g₀)) (ctr (keyOf (h .session) i) x y)) (header-iv i t li lt) (header-cipher i t li lt)
-        ∙ ap (numberAt (4 * (σ % perBlock g₀))) (ctr-twice (keyOf (h .session) i) (iv-at i t li lt) (mapText (h .maps) g₀ i t))
-        ∙ mapText-entry (h .maps) g₀ ok i σ lσ fits
+        ap (storedEntry g₀ (keyOf (h .session) i) (headerOf g₀ (after K) i)) (sym (div-add-mod' σ c))
+        ∙ sealed-entry g₀ ok (keyOf (h .session) i) (iv-at i t li lt) (headerOf g₀ (after K) i)
+        (λ e. choose (ltb (t * c + e) (g₀ .p)) (entry (h .maps) g₀ i (t * c + e)) unmapped) t (σ % c)
+        (iv-length (h .maps) g₀ ok (keyOf (h .session) i) i tape (at i) (left i li) t lt) (mod-lt σ (perBlock-least g₀ ok))
+        (rw this (⊎-elim (λ e. omega arith) (λ e. omega (arith, ok .slices-most)) fits)) (header-block i t li lt)
+        ∙ this
+      where
+        c : ℕ
+        c = perBlock g₀
+
+        this : choose (ltb (σ / c * c + σ % c) (g₀ .p)) (entry (h .maps) g₀ i (σ / c * c + σ % c)) unmapped ≡ entry (h .maps) g₀ i σ
+        this = rw (div-add-mod' σ c, lt-ltb σ (g₀ .p) lσ) refl

@@ -18,6 +18,7 @@ use Rattle.model.specs.Opening.{storedEntry, mapEntries, Loaded, Tables, Spoilt
 use Rattle.model.specs.Opening.{untouched, allKeys, withTables, withKeys, withCell, openModel}
 use Rattle.model.specs.Conditions.{TablesFit}
 use Rattle.model.proofs.Tests.{equal}
+use Rattle.model.proofs.Keys.{allKeys-length, allKeys-above}
 use Rattle.model.proofs.Requests as requests
 use Rattle.guarantees.specs.Rules.{Names}
 use Rattle.guarantees.specs.Openings.{Lowest}
@@ -28,7 +29,7 @@ use Rattle.guarantees.proofs.Orders.{missing-refutes, open-leads}
 use Rattle.guarantees.proofs.Sound.{Sound, tableEntry}
 use Rattle.guarantees.proofs.Blocks.{same-slot}
 use Rattle.guarantees.proofs.Cases.{Stands}
-use Rattle.guarantees.proofs.Unlocks.{firstCell-lowest}
+use Rattle.guarantees.proofs.Unlocks.{firstCell-lowest, chain-unlocked}
 use Rattle.guarantees.proofs.Tables.{Holds, load-holds, load-same}
 
 -- ---- the lowest cell that opens: no cell above it counts
@@ -187,12 +188,23 @@ module _ (device : List ℕ) (x : Handed) (l : Lent) (k : ℕ) where
     served-sound =
         record {
           whole = λ i σ hi hσ. table .whole (i * g .p + σ) (inside i σ hi hσ);
-          once = λ i σ j τ hi hj hσ hτ m e.
-              same-slot g i σ j τ hσ hτ (table .once (i * g .p + σ) (j * g .p + τ) (inside i σ hi hσ) (inside j τ hj hτ) m e);
-          taken = λ i σ hi hσ m z.
-              let q : (i * g .p + σ) / g .p + 1 ≡ 0 = sym (table .owns (i * g .p + σ) (inside i σ hi hσ) m) ∙ z in
-              absurd (omega arith);
+          apart = record {
+            once = λ i σ j τ hi hj hσ hτ m e.
+                same-slot g i σ j τ hσ hτ (table .once (i * g .p + σ) (j * g .p + τ) (inside i σ hi hσ) (inside j τ hj hτ) m e);
+            owner = λ i ψ hi hψ m.
+                sym (ap (λ (y : ℕ). getD (s .owners) y 0) (m .2))
+                ∙ table .owns (i * g .p + m .0) (inside i (m .0) hi (m .1)) (rw (m .2) hψ)
+                ∙ ap (λ (y : ℕ). y + 1) (digits-div i (m .1));
+            free = λ ψ hψ none. ⊎-elim (λ z. z) (λ d. absurd (mapped-by ψ none (table .used ψ hψ d))) (equal (getD (s .owners) ψ 0) 0);
+          };
         }
+      where
+        mapped-by : (ψ : ℕ) → ((i : ℕ) → i ≤ k → Maps (tableEntry (heldBy s)) (g .p) i ψ → ⊥)
+            → (m : ℕ) × (m < (k + 1) * g .p) × (getD (s .maps) m 0 ≡ ψ) → ⊥
+        mapped-by ψ none u =
+            let r : u .0 / g .p < k + 1 = div-lt-iff-lt-mul (served-taken .good .slices-least) .1 (u .1) in
+            none (u .0 / g .p) (omega arith)
+            (u .0 % g .p, mod-lt (u .0) (served-taken .good .slices-least), ap (λ (y : ℕ). getD (s .maps) y 0) (div-add-mod' (u .0) (g .p)) ∙ u .2)
 
     pub served-stands : Stands (length device) (heldBy s)
     served-stands =
@@ -201,6 +213,10 @@ module _ (device : List ℕ) (x : Handed) (l : Lent) (k : ℕ) where
           long = served-taken .long;
           tables = (table .maps-long, table .owners-long);
         }
+
+    keys-size : length (s .keys) ≡ 32 * (k + 1)
+    keys-size =
+        omega (arith, chain-unlocked device g k (s .vmk) (served-taken .good) (served-taken .long) served-low (s .keys) (s .headers) .size)
 
     -- The entries that stand on the device.
     abbrev onDevice : ℕ → ℕ → ℕ
@@ -218,27 +234,16 @@ module _ (device : List ℕ) (x : Handed) (l : Lent) (k : ℕ) where
           same = refl;
           top = refl;
           position = refl;
+          keys-long = allKeys-length (s .keys) k keys-size served-low;
+          keys-above = allKeys-above (s .keys) k keys-size served-low;
           maps-long = table .maps-long;
           owners-long = table .owners-long;
           mapped = λ i σ hi hσ. sym (served-entry i σ hi hσ);
           above = λ i σ hi low hσ. table .rest (i * g .p + σ) (omega (arith, mul-le-mul-right (g .p) hi)) (digits-lt low hσ);
-          owner = λ i ψ hi hψ m.
-              let is : tableEntry (heldBy s) i (m .0) ≡ ψ = sym (served-entry i (m .0) hi (m .1)) ∙ m .2 in
-              sym (ap (λ (y : ℕ). getD (s .owners) y 0) is)
-              ∙ table .owns (i * g .p + m .0) (inside i (m .0) hi (m .1)) (rw is hψ)
-              ∙ ap (λ (y : ℕ). y + 1) (digits-div i (m .1));
-          free = λ ψ hψ none. ⊎-elim (λ z. z) (λ d. absurd (mapped-by ψ none (table .used ψ hψ d))) (equal (getD (s .owners) ψ 0) 0);
+          owner = λ i ψ hi hψ m. served-sound .apart .owner i ψ hi hψ (m .0, m .1, sym (served-entry i (m .0) hi (m .1)) ∙ m .2);
+          free = λ ψ hψ none.
+              served-sound .apart .free ψ hψ (λ i hi m. none i hi (m .0, m .1, served-entry i (m .0) hi (m .1) ∙ m .2));
         }
-      where
-        mapped-by : (ψ : ℕ) → ((i : ℕ) → i ≤ k → Maps onDevice (g .p) i ψ → ⊥)
-            → (m : ℕ) × (m < (k + 1) * g .p) × (getD (s .maps) m 0 ≡ ψ) → ⊥
-        mapped-by ψ none u =
-            let i = u .0 / g .p in
-            let σ = u .0 % g .p in
-            let r : i < k + 1 = div-lt-iff-lt-mul (served-taken .good .slices-least) .1 (u .1) in
-            let c : σ < g .p = mod-lt (u .0) (served-taken .good .slices-least) in
-            none i (omega arith)
-            (σ, c, served-entry i σ (omega arith) c ∙ ap (λ (y : ℕ). getD (s .maps) y 0) (div-add-mod' (u .0) (g .p)) ∙ u .2)
 
 -- ---- an opening of another device that has the same cells and headers up to k
 

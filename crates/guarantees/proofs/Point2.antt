@@ -18,8 +18,8 @@ use Rattle.model.specs.Write.{WriteResult, rewritten, claimed, claimedBytes, wr
 use Rattle.model.specs.Close.{CloseResult, closeModel}
 use Rattle.guarantees.specs.Runs.{State, Call, Reading, Finding, Writing, Closing, Writes, outcome, next, events, final, left}
 use Rattle.model.specs.Conditions.{Usable, EntryFits, Enough}
-use Rattle.guarantees.specs.Rules.{closeRules}
-use Rattle.guarantees.specs.Arrays.{Arrays, put, arraysAfter, arraysAfterAll, heldEntry, Fits, Unfit, ReadDue, FindDue, found, nowhere}
+use Rattle.guarantees.specs.Rules.{closeRules, heldEntry}
+use Rattle.guarantees.specs.Arrays.{Arrays, put, arraysAfter, arraysAfterAll, Fits, Unfit, ReadDue, FindDue, found, nowhere}
 use Rattle.guarantees.specs.Arrays.{WriteDue, rewrite-short, claim-short, no-slice, full, CloseDue, done, close-short, Due, AllDue}
 use Rattle.model.proofs.Parts.{part-length, overlay-before, overlay-length}
 use Rattle.model.proofs.Tests.{equal}
@@ -104,7 +104,7 @@ module _ (first : State) (device : List ℕ) (h : Held) (i a : ℕ) (text perm t
         record {
           stands =
               record { usable = w .stands .usable; long = patched-length (o .patches) device ∙ w .stands .long; tables = w .stands .tables };
-          sound = record { whole = op .sound .whole; once = op .sound .once; taken = op .sound .taken };
+          sound = record { whole = op .sound .whole; apart = record { once = op .sound .apart .once; owner = op .sound .apart .owner; free = op .sound .apart .free } };
           session = op .session;
           header = λ x n fits.
               overlay-before _ _ _ x n (omega (arith, slice-first g (heldEntry h i a)))
@@ -136,7 +136,7 @@ module _ (first : State) (device : List ℕ) (h : Held) (i a : ℕ) (text perm t
             ∙ op .holds j b oj hb
             ∙ sym (restored-other g ok device (key i) iv text (heldEntry h i a) j₀ l hj (w .stands .long) ivl (w .asked .size)
             (key j) (heldEntry h j b) (offsetOf g b) (offsetOf-lt g ok b)
-            (λ e f. let q = op .sound .once i σ j (sliceOf g b) (w .asked .volume) oj hσ (sliceOf-lt g ok b hb) l (sym e) in
+            (λ e f. let q = op .sound .apart .once i σ j (sliceOf g b) (w .asked .volume) oj hσ (sliceOf-lt g ok b hb) l (sym e) in
             ne (sym (q .0)) (same-address g b a (sym (q .1)) f)))
 
     module _ (ψ place : ℕ) (un : heldEntry h i a ≡ unmapped) (hψ : ψ < g .p) (free : getD (h .owners) ψ 0 ≡ 0)
@@ -208,7 +208,7 @@ module _ (first : State) (device : List ℕ) (h : Held) (i a : ℕ) (text perm t
                   long = overlay-length device _ _ ∙ w .stands .long;
                   tables = (length-set (h .maps) _ ψ ∙ w .stands .tables .0, length-set (h .owners) ψ (i + 1) ∙ w .stands .tables .1);
                 };
-            sound = claimed-sound (length device) h i σ j₀ ψ place text tape (w .stands) (w .asked .volume) hσ (op .sound) hψ free;
+            sound = claimed-sound (length device) h i σ j₀ ψ place text tape (w .stands) (w .asked .volume) hσ (op .sound) hψ free un;
             session = op .session;
             header = λ x n fits. overlay-before device (sliceStart g ψ) _ x n (omega (arith, slice-first g ψ)) ∙ op .header x n fits;
             holds = now-is;

@@ -16,9 +16,9 @@ use Rattle.model.specs.Read.{blockOf, ReadResult, readModel, findModel}
 use Rattle.model.specs.Write.{WriteResult, rewritten, claimed, claimedBytes, writeModel}
 use Rattle.model.specs.Close.{mapPatches, closeModel}
 use Rattle.guarantees.specs.Runs.{State, Call, Reading, Finding, Writing, Closing, Event, Reads, Finds, Writes, Closes, asEvent, outcome, next}
-use Rattle.guarantees.specs.Runs.{final, events, positions, stores, left, allPlaces, Within}
+use Rattle.guarantees.specs.Runs.{final, events, positions, left, allPlaces, Within}
 use Rattle.model.specs.Conditions.{Enough}
-use Rattle.guarantees.specs.Arrays.{heldEntry}
+use Rattle.guarantees.specs.Rules.{heldEntry}
 use Rattle.guarantees.specs.Points.{EqualRuns}
 use Rattle.model.proofs.Parts.{part-length, part-agree}
 use Rattle.model.proofs.Tests.{below}
@@ -29,7 +29,7 @@ use Rattle.guarantees.proofs.Sound.{OpenVolume, tableEntry}
 use Rattle.guarantees.proofs.Blocks.{deciphered-same, claimed-length}
 use Rattle.guarantees.proofs.Cases.{Asked, readRefusalOf, Writable, write-stores, close-cases}
 use Rattle.guarantees.proofs.Claims.{claimed-entry-cases}
-use Rattle.guarantees.proofs.Stored.{run-stored, run-ranges}
+use Rattle.guarantees.proofs.Stored.{stores, run-patched, run-ranges}
 
 -- Two devices that hold the same bytes in a slice.
 abbrev pub SameSlice : Geometry → (s t : List ℕ) → (ψ : ℕ) → Type 0
@@ -187,35 +187,34 @@ alike-next st st′ alike c =
     same : outcome st c ≡ outcome (with (st .held)) c
     same = same-outcome (st .device) (st′ .device) (st .held) al c
 
--- Equal stores leave equal bytes where they wrote.
-stores-written : (cs : List Call) (st st′ : State) → length (st .device) ≡ length (st′ .device) → stores st cs ≡ stores st′ cs
+-- Both store the same.
+same-stores : (cs : List Call) (st st′ : State) → Alike st st′ → stores st cs ≡ stores st′ cs
+unfolding stores
+same-stores [] st st′ al = refl
+same-stores (c ∷ cs) st st′ al =
+    let s = alike-next st st′ al c in
+    ap₂ (λ (x l : List Patch). x ++ l) (ap (λ (o : Outcome Event). o .patches) (s .0)) (same-stores cs (next st c) (next st′ c) (s .1))
+
+-- And so hold equal bytes where they wrote.
+run-written : (cs : List Call) (st st′ : State) → Alike st st′
     → (p : ℕ) → Within p (allPlaces (geometry (st .held)) (st .held .session .k) (events st cs))
     → getD (final st cs .device) p 0 ≡ getD (final st′ cs .device) p 0
-stores-written cs st st′ long same p w =
-    ap (λ (x : List ℕ). getD x p 0) (run-stored cs st)
-    ∙ patched-written p (stores st cs) (st .device) (st′ .device) long (rw (run-ranges cs st) w)
-    ∙ ap (λ (x : List Patch). getD (patched x (st′ .device)) p 0) same
-    ∙ sym (ap (λ (x : List ℕ). getD x p 0) (run-stored cs st′))
+run-written cs st st′ al p w =
+    ap (λ (x : List ℕ). getD x p 0) (run-patched cs st)
+    ∙ patched-written p (stores st cs) (st .device) (st′ .device) (al .long) (rw (run-ranges cs st) w)
+    ∙ ap (λ (x : List Patch). getD (patched x (st′ .device)) p 0) (same-stores cs st st′ al)
+    ∙ sym (ap (λ (x : List ℕ). getD x p 0) (run-patched cs st′))
 
 pub run-alike : (cs : List Call) (st st′ : State) → Alike st st′ → EqualRuns (st .held .session .k) st st′ cs
-unfolding events positions final stores
+unfolding events positions final
 run-alike [] st st′ al =
-    record {
-      same-events = refl;
-      same-positions = refl;
-      same-held = al .held;
-      same-stores = refl;
-      written = stores-written [] st st′ (al .long) refl;
-    }
+    record { same-events = refl; same-positions = refl; same-held = al .held; written = run-written [] st st′ al }
 run-alike (c ∷ cs) st st′ al =
     let s = alike-next st st′ al c in
     let r = run-alike cs (next st c) (next st′ c) (s .1) in
-    let same : stores st (c ∷ cs) ≡ stores st′ (c ∷ cs) =
-    ap₂ (λ (x l : List Patch). x ++ l) (ap (λ (o : Outcome Event). o .patches) (s .0)) (r .same-stores) in
     record {
       same-events = ap₂ (λ (x : Event) (l : List Event). x ∷ l) (ap (λ (o : Outcome Event). o .answer) (s .0)) (r .same-events);
       same-positions = ap₂ (λ (x : ℕ) (l : List ℕ). x ∷ l) (ap (λ (o : Outcome Event). o .held .position) (s .0)) (r .same-positions);
       same-held = r .same-held;
-      same-stores = same;
-      written = stores-written (c ∷ cs) st st′ (al .long) same;
+      written = run-written (c ∷ cs) st st′ al;
     }

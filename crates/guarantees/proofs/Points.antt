@@ -2,24 +2,28 @@
 use Prim.Native.Nat.{ℕ, _+_, _-_, _≤_, _<_}
 use mathlib.Core.Path.{_≡_, refl, sym, ap, _∙_, subst}
 use mathlib.Core.List.{List}
+use mathlib.Core.Bool.{true}
 use native.Mathlib.Omega.{arith}
 use lib.ListN.{length, getD}
 use lib.Seq.{getD-take, getD-drop}
 use Rattle.model.specs.declared.Geometry.{Geometry}
 use Rattle.model.specs.Parts.{part}
 use Rattle.model.specs.Geometry.{headerOf, sliceStart, sliceSize}
-use Rattle.model.specs.Session.{geometry, keyOf, sliceOf, offsetOf}
+use Rattle.model.specs.declared.Change.the-variants.{Claimed}
+use Rattle.model.specs.Session.{Held, Outcome, geometry, keyOf, sliceOf, offsetOf}
+use Rattle.model.specs.Write.{WriteResult, writeModel}
 use Rattle.model.specs.Opening.{OpenOutcome, storedEntry}
 use Rattle.model.specs.Read.{deciphered}
-use Rattle.guarantees.specs.Runs.{State, Call, final, events, allPlaces, Within}
+use Rattle.guarantees.specs.Runs.{State, Call, outcome, final, events, allPlaces, Within}
 use Rattle.guarantees.specs.Arrays.{Arrays}
 use Rattle.guarantees.specs.Openings.{AllUnlocked}
-use Rattle.guarantees.specs.Points.{Handed, Lent, opens, holds, begin, mapEntry, firstArrays, Opens, Run, Agree, EqualRuns, Points23}
+use Rattle.guarantees.specs.Points.{Handed, Lent, opens, holds, begin, mapEntry, firstArrays, Opens, Run, Agree, EqualRuns, Points23, NoSliceTwice}
 use Rattle.model.proofs.Bounds.{sliceOf-lt}
 use Rattle.guarantees.proofs.Sound.{tableEntry}
 use Rattle.guarantees.proofs.Opened.{holding, Served, served, served-is, openedBy, served-sound, served-stands, served-opens, served-entry}
 use Rattle.guarantees.proofs.Opened.{served-taken, served-cell, served-same}
 use Rattle.guarantees.proofs.Keys.{served-keys}
+use Rattle.guarantees.proofs.Cases.{write-stores}
 use Rattle.guarantees.proofs.Point2.{Open, Kept, run-due}
 use Rattle.guarantees.proofs.Stored.{run-stored, run-held, run-kept}
 use Rattle.guarantees.proofs.Again.{run-again}
@@ -151,4 +155,31 @@ points23 s x l k e =
               run t x l′ k (b .0) cs,
             ),
           );
+    }
+
+-- ---- the accident
+
+-- A claim takes a slice that is free.
+claim-free : (n : ℕ) (h : Held) (i a : ℕ) (text perm tape : List ℕ) (ψ probes : ℕ)
+    → writeModel n h i a text perm tape .answer ≡ WriteResult.Served (Claimed ψ) probes
+    → (h .session .opened ≡ true) × (ψ < geometry h .p) × (getD (h .owners) ψ 0 ≡ 0)
+claim-free n h i a text perm tape ψ probes =
+    write-stores n h i a text perm tape (λ (o : Outcome WriteResult). o .answer ≡ WriteResult.Served (Claimed ψ) probes → Free)
+    (λ number count e. let z : _≡_ {A = ℕ} 0 1 = cc in absurd (omega arith))
+    (λ w l enough e. let z : _≡_ {A = ℕ} 0 1 = cc in absurd (omega arith))
+    (λ w u φ place hφ free enough e. let q : φ ≡ ψ = cc in (w .stands .usable .opened, rw q at hφ, rw q at free))
+  where
+    Free : Type 0
+    Free = (h .session .opened ≡ true) × (ψ < geometry h .p) × (getD (h .owners) ψ 0 ≡ 0)
+
+pub no-slice-twice : NoSliceTwice
+unfolding outcome
+no-slice-twice s x l k e cs =
+    let u = final (begin s x l) cs in
+    let kept = run-due (begin s x l) cs (begin s x l) (firstArrays s x l) (begins s x l k (served s x l k e)) .1 in
+    record {
+      apart = λ live. kept live .sound .apart;
+      fresh = λ i a text perm tape ψ probes w j hj m.
+          let f = claim-free (length (u .device)) (u .held) i a text perm tape ψ probes (cc) in
+          omega (arith, kept (f .0) .sound .apart .owner j ψ hj (f .1) m, f .2);
     }

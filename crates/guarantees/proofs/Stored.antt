@@ -6,42 +6,47 @@ use native.Mathlib.Omega.{arith}
 use lib.ListN.{length, getD}
 use Rattle.ctr.proofs.Stream.{ctr-length}
 use Rattle.model.specs.declared.Geometry.{Geometry}
-use Rattle.model.specs.Parts.{part, patched}
+use Rattle.model.specs.Parts.{part, Patch, patched}
 use Rattle.model.specs.Geometry.{sliceStart, ivStart, blockStart}
-use Rattle.model.specs.Session.{Held, Outcome, geometry, keyOf, offsetOf}
-use Rattle.model.specs.Write.{WriteResult}
+use Rattle.model.specs.Session.{Held, Outcome, idle, geometry, keyOf, offsetOf, noKeys}
+use Rattle.model.specs.Write.{WriteResult, claimedBytes}
 use Rattle.model.specs.Close.{CloseResult}
 use Rattle.guarantees.specs.Runs.{State, Call, Reading, Finding, Writing, Closing, Event, Writes, Closes, asEvent, outcome, next, final}
-use Rattle.guarantees.specs.Runs.{events, stores, Range, places, allPlaces, Within}
-use Rattle.guarantees.specs.Arrays.{heldEntry, heldAfter, heldAfterAll}
+use Rattle.guarantees.specs.Runs.{events, Range, places, allPlaces, Within}
+use Rattle.guarantees.specs.Rules.{heldEntry}
+use Rattle.guarantees.specs.Effects.{heldAfter, heldAfterAll, storedBy, storedByAll, Follows}
 use Rattle.model.proofs.Parts.{part-length, patched-++}
 use Rattle.guarantees.proofs.Patches.{rangesOf, ranges-++, patched-kept}
 use Rattle.guarantees.proofs.Blocks.{claimed-length}
 use Rattle.guarantees.proofs.Cases.{write-stores, close-cases}
-use Rattle.guarantees.proofs.MapBlocks.{mapPatches-ranges}
+use Rattle.guarantees.proofs.MapBlocks.{mapPatches-ranges, mapPatches-stored}
 
 -- ---- one call
 
--- Its patches are its written places, what is held follows from the event, and geometry and k stay.
-record Step (h : Held) (o : Outcome Event) : Type 0 where
+-- Its patches are its written places, what it stores and leaves follows from the event, and geometry and k stay.
+pub record Step (h : Held) (o : Outcome Event) : Type 0 where
   ranges : rangesOf (o .patches) ≡ places (geometry h) (h .session .k) (o .answer)
-  held : o .held ≡ heldAfter h (o .answer)
+  pub follows : Follows h o
   geo : geometry (o .held) ≡ geometry h
   top : o .held .session .k ≡ h .session .k
 
-step : (st : State) (c : Call) → Step (st .held) (outcome st c)
-unfolding outcome places heldAfter
-step st (Reading i a room) = record { ranges = refl; held = refl; geo = refl; top = refl }
-step st (Finding i a) = record { ranges = refl; held = refl; geo = refl; top = refl }
+-- A call that changes nothing.
+none : {h : Held} {e : Event} → [] ≡ storedBy h e → h ≡ heldAfter h e → [] ≡ places (geometry h) (h .session .k) e → Step h (idle h e)
+none s k r = record { ranges = r; follows = record { stored = s; held = k }; geo = refl; top = refl }
+
+pub step : (st : State) (c : Call) → Step (st .held) (outcome st c)
+unfolding outcome places heldAfter storedBy claimedBytes noKeys
+step st (Reading i a room) = none refl refl refl
+step st (Finding i a) = none refl refl refl
 step st (Writing i a text perm tape) =
     let h = st .held in
     let g = geometry h in
     let iv = part (h .position) 16 tape in
     let ivs = part (h .position) (g .b) tape in
     write-stores (length (st .device)) h i a text perm tape (λ (o : Outcome WriteResult). Step h (asEvent (Writes i a text perm tape) o))
-    (λ number count. record { ranges = refl; held = refl; geo = refl; top = refl })
+    (λ number count. none refl refl refl)
     (λ w l enough. record {
-      held = refl;
+      follows = record { stored = refl; held = refl };
       geo = refl;
       top = refl;
       ranges =
@@ -52,7 +57,7 @@ step st (Writing i a text perm tape) =
           (part-length tape (h .position) 16 enough) (ctr-length (keyOf (h .session) i) iv text ∙ w .asked .size);
     })
     (λ w u ψ place hψ free enough. record {
-      held = refl;
+      follows = record { stored = refl; held = refl };
       geo = refl;
       top = refl;
       ranges =
@@ -61,21 +66,42 @@ step st (Writing i a text perm tape) =
     })
 step st (Closing tape) =
     let h = st .held in
+    let K = h .session .k + 1 in
     close-cases (length (st .device)) h tape (λ (o : Outcome CloseResult). Step h (asEvent (Closes tape) o))
-    (λ r e. record { ranges = refl; held = refl; geo = refl; top = refl })
+    (λ r e. none refl refl refl)
     (λ s enough. record {
-      held = refl;
+      follows = record {
+        stored = mapPatches-stored h tape (s .usable .allowed) K enough (s .tables .0) (omega (arith, s .usable .top)) K (omega arith);
+        held = refl;
+      };
       geo = refl;
       top = refl;
-      ranges = mapPatches-ranges h tape (s .usable .allowed) (h .session .k + 1) enough (h .session .k + 1) (omega arith);
+      ranges = mapPatches-ranges h tape (s .usable .allowed) K enough K (omega arith);
     })
 
 -- ---- the list
 
-pub run-stored : (cs : List Call) (st : State) → final st cs .device ≡ patched (stores st cs) (st .device)
+-- The patches of the calls, in order.
+unfoldable pub stores : State → List Call → List Patch
+stores st [] = []
+stores st (c ∷ cs) = outcome st c .patches ++ stores (next st c) cs
+
+-- They are what the events store.
+run-stores : (cs : List Call) (st : State) → stores st cs ≡ storedByAll (st .held) (events st cs)
+unfolding stores events storedByAll
+run-stores [] st = refl
+run-stores (c ∷ cs) st =
+    let f = step st c .follows in
+    ap₂ (λ (ps qs : List Patch). ps ++ qs) (f .stored)
+    (run-stores cs (next st c) ∙ ap (λ (h : Held). storedByAll h (events (next st c) cs)) (f .held))
+
+pub run-patched : (cs : List Call) (st : State) → final st cs .device ≡ patched (stores st cs) (st .device)
 unfolding final stores patched
-run-stored [] st = refl
-run-stored (c ∷ cs) st = run-stored cs (next st c) ∙ sym (patched-++ (outcome st c .patches) (stores (next st c) cs) (st .device))
+run-patched [] st = refl
+run-patched (c ∷ cs) st = run-patched cs (next st c) ∙ sym (patched-++ (outcome st c .patches) (stores (next st c) cs) (st .device))
+
+pub run-stored : (cs : List Call) (st : State) → final st cs .device ≡ patched (storedByAll (st .held) (events st cs)) (st .device)
+run-stored cs st = run-patched cs st ∙ ap (λ (ps : List Patch). patched ps (st .device)) (run-stores cs st)
 
 abbrev placesOf : State → List Event → List Range
 placesOf st es = allPlaces (geometry (st .held)) (st .held .session .k) es
@@ -92,9 +118,9 @@ run-ranges (c ∷ cs) st =
 pub run-kept : (cs : List Call) (st : State) (p : ℕ) → (Within p (placesOf st (events st cs)) → ⊥)
     → getD (final st cs .device) p 0 ≡ getD (st .device) p 0
 run-kept cs st p out =
-    ap (λ (l : List ℕ). getD l p 0) (run-stored cs st) ∙ patched-kept (stores st cs) (st .device) p (rw (run-ranges cs st) out)
+    ap (λ (l : List ℕ). getD l p 0) (run-patched cs st) ∙ patched-kept (stores st cs) (st .device) p (rw (run-ranges cs st) out)
 
 pub run-held : (cs : List Call) (st : State) → final st cs .held ≡ heldAfterAll (st .held) (events st cs)
 unfolding final events heldAfterAll
 run-held [] st = refl
-run-held (c ∷ cs) st = run-held cs (next st c) ∙ ap (λ (h : Held). heldAfterAll h (events (next st c) cs)) (step st c .held)
+run-held (c ∷ cs) st = run-held cs (next st c) ∙ ap (λ (h : Held). heldAfterAll h (events (next st c) cs)) (step st c .follows .held)

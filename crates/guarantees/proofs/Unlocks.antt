@@ -73,7 +73,7 @@ module _ (device : List ℕ) (g : Geometry) (k : ℕ) (top : List ℕ) where
 
   -- keys has the VEKs of volumes n to k end to end.
   pub record UnlockedFrom (n : ℕ) (keys : List ℕ) : Type 0 where
-    size : 32 * n + length keys ≡ 32 * (k + 1)
+    pub size : 32 * n + length keys ≡ 32 * (k + 1)
     each : (j : ℕ) → n + j ≤ k → Unlocked device g k top (n + j) (part (32 * j) 32 keys)
 
   -- What the chain of headers comes to: the data keys, or the first header whose tag is wrong or that does not fit.

@@ -1,21 +1,22 @@
 -- Point 2 of the mission, call by call: each open volume is an array of blocks, and each request has the answer that it is
 -- due. Assumes nothing.
-use Prim.Native.Nat.{ℕ, _+_, _*_, _≤_, _<_}
+use Prim.Native.Nat.{ℕ, _+_, _≤_, _<_}
 use mathlib.Core.Path.{_≡_}
 use mathlib.Core.List.{List, [], _∷_}
-use mathlib.Core.Bool.{true, false, _&&_}
-use lib.ListN.{length, set, replicate}
+use mathlib.Core.Bool.{true, _&&_}
+use lib.ListN.{length}
 use lib.Dec.{eqb}
 use Rattle.model.specs.declared.Change.the-variants.{Claimed, Rewritten}
 use Rattle.model.specs.Parts.{choose, part}
-use Rattle.model.specs.Geometry.{blockStart, mapBlocks}
-use Rattle.model.specs.Session.{Held, geometry, blockCount, slot, sliceOf, offsetOf, entryOf, unmapped, noKeys}
+use Rattle.model.specs.Geometry.{blockStart}
+use Rattle.model.specs.Session.{Held, geometry, blockCount, offsetOf, unmapped}
 use Rattle.model.specs.Read.{ReadResult}
 use Rattle.model.specs.Write.{WriteResult}
 use Rattle.model.specs.Close.{CloseResult}
 use Rattle.guarantees.specs.Runs.{State, Call, Event, Reads, Finds, Writes, Closes, outcome, next}
 use Rattle.model.specs.Conditions.{Enough}
-use Rattle.guarantees.specs.Rules.{sliceAt, AllHeld, FirstFree, FirstBad}
+use Rattle.guarantees.specs.Rules.{sliceAt, AllHeld, FirstFree, FirstBad, heldEntry}
+use Rattle.guarantees.specs.Effects.{closeBytes}
 
 -- Block a of volume i.
 abbrev pub Arrays : Type 0
@@ -37,43 +38,7 @@ unfoldable pub arraysAfterAll : Arrays → List Event → Arrays
 arraysAfterAll arrays [] = arrays
 arraysAfterAll arrays (e ∷ es) = arraysAfterAll (arraysAfter arrays e) es
 
--- The tape bytes that a close of what is held needs: 16 for each map block of volumes 0 to k.
-abbrev pub closeBytes : Held → ℕ
-closeBytes h = 16 * mapBlocks (geometry h) * (h .session .k + 1)
-
--- What is held after an event: a served write draws from the tape, a claim sets its entry and its owner, a served close
--- wipes all but geometry and k.
-unfoldable pub heldAfter : Held → Event → Held
-heldAfter h (Writes i a text perm tape (WriteResult.Served (Rewritten ψ) probes)) =
-    record { maps = h .maps; owners = h .owners; position = h .position + 16; session = h .session }
-heldAfter h (Writes i a text perm tape (WriteResult.Served (Claimed ψ) probes)) =
-    record {
-      maps = set (h .maps) (slot (geometry h) i (sliceOf (geometry h) a)) ψ;
-      owners = set (h .owners) ψ (i + 1);
-      position = h .position + geometry h .b;
-      session = h .session;
-    }
-heldAfter h (Writes i a text perm tape (WriteResult.Refused n probes)) = h
-heldAfter h (Closes tape CloseResult.Closed) =
-    record {
-      maps = replicate (15 * geometry h .p) unmapped;
-      owners = replicate (geometry h .p) 0;
-      position = h .position + closeBytes h;
-      session = record { geometry = geometry h; k = h .session .k; keys = noKeys; opened = false };
-    }
-heldAfter h (Closes tape (CloseResult.Refused n)) = h
-heldAfter h (Reads i a room r) = h
-heldAfter h (Finds i a bytes) = h
-
-unfoldable pub heldAfterAll : Held → List Event → Held
-heldAfterAll h [] = h
-heldAfterAll h (e ∷ es) = heldAfterAll (heldAfter h e) es
-
 -- ---- when each answer is due
-
--- The entry of block address a of volume i in the held map table.
-abbrev pub heldEntry : Held → (i a : ℕ) → ℕ
-heldEntry h i a = entryOf (h .maps) (geometry h) i a
 
 -- What an open session asks of a request with a permutation of n places, volume i, address a and a buffer or text of len
 -- bytes; a request without permutation has n = P.

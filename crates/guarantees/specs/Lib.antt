@@ -1,5 +1,6 @@
 pub mod Runs
 pub mod Rules
 pub mod Openings
+pub mod Effects
 pub mod Arrays
 pub mod Points

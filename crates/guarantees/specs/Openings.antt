@@ -4,13 +4,14 @@ use Prim.Native.Nat.{ℕ, suc, _+_, _*_, _≤_, _<_}
 use mathlib.Core.Path.{_≡_}
 use mathlib.Core.Logic.{_⊎_}
 use mathlib.Core.List.{List}
-use lib.ListN.{length}
+use mathlib.Core.Bool.{false}
+use lib.ListN.{length, replicate}
 use Rattle.gcm.specs.Gcm.{Text, WrongTag}
 use Rattle.model.specs.declared.Geometry.{Geometry}
 use Rattle.model.specs.Parts.{part}
 use Rattle.model.specs.Geometry.{numberAt, cellOf, headerOf}
 use Rattle.model.specs.Session.{unmapped}
-use Rattle.model.specs.Opening.{OpenOutcome, OpenTo, openCell, openHeader, vekOf, vmkBelow, mapEntries, untouched, wiped}
+use Rattle.model.specs.Opening.{OpenOutcome, OpenTo, NotOpened, openCell, openHeader, vekOf, vmkBelow, mapEntries}
 use Rattle.guarantees.specs.Rules.{First, openRules}
 
 -- Cell k is the lowest that opens, and holds this VMK.
@@ -46,34 +47,54 @@ AllUnlocked device g k top keys = (i : ℕ) → i ≤ k → Unlocked device g k 
 abbrev pub Sound : (entries : ℕ → ℕ) → (p n : ℕ) → Type 0
 Sound entries p n = (m : ℕ) → m < n → (entries m ≡ unmapped) ⊎ ((entries m < p) × ((l : ℕ) → l < m → entries l ≡ entries m → ⊥))
 
+-- ---- the answer
+
+-- None of 1 to 5 applies.
+abbrev pub Accepted : (device : List ℕ) → Geometry → (key maps owners perm : List ℕ) → Type 0
+Accepted device g key maps owners perm = First (openRules g (length device) (length key) (length maps) (length owners) perm) 0 0
+
+-- A refused opening: its number, the tables that it leaves, and a session that is closed, its numbers and keys 0.
+abbrev pub refusedLeaving : ℕ → (maps owners : List ℕ) → OpenOutcome
+refusedLeaving n maps owners =
+    record {
+      answer = NotOpened n;
+      maps = maps;
+      owners = owners;
+      session = record { geometry = record { b = 0; s = 0; p = 0 }; k = 0; keys = replicate 480 0; opened = false };
+    }
+
+-- By 6 to 10: 15 × P entries that are the mark, and P owners 0.
+abbrev pub refusedEmpty : ℕ → Geometry → OpenOutcome
+refusedEmpty n g = refusedLeaving n (replicate (15 * g .p) unmapped) (replicate (g .p) 0)
+
 -- Refused by 1 to 5, the first rule that applies, an opening leaves the tables; refused by 6 to 10 it leaves marks and
 -- owners 0; it answers k where nothing is wrong.
 pub data OpenAnswered (device : List ℕ) (g : Geometry) (key maps owners perm : List ℕ) : OpenOutcome → Type 0 where
   handed-wrong : (n : ℕ) → (n ≡ 0 → ⊥) → First (openRules g (length device) (length key) (length maps) (length owners) perm) n 0
-      → OpenAnswered device g key maps owners perm (untouched maps owners n)
-  no-cell : First (openRules g (length device) (length key) (length maps) (length owners) perm) 0 0
+      → OpenAnswered device g key maps owners perm (refusedLeaving n maps owners)
+  no-cell : Accepted device g key maps owners perm
       → ((i : ℕ) → i < 15 → openCell key i (cellOf device i) ≡ WrongTag)
-      → OpenAnswered device g key maps owners perm (wiped g 6)
-  header-tag : First (openRules g (length device) (length key) (length maps) (length owners) perm) 0 0
+      → OpenAnswered device g key maps owners perm (refusedEmpty 6 g)
+  header-tag : Accepted device g key maps owners perm
       → (k : ℕ) (top : List ℕ) → Lowest device key k top → (i : ℕ) (vmk : List ℕ) → Reached device g k top i vmk
       → openHeader vmk i (headerOf g device i) ≡ WrongTag
-      → OpenAnswered device g key maps owners perm (wiped g 7)
-  header-geometry : First (openRules g (length device) (length key) (length maps) (length owners) perm) 0 0
+      → OpenAnswered device g key maps owners perm (refusedEmpty 7 g)
+  header-geometry : Accepted device g key maps owners perm
       → (k : ℕ) (top : List ℕ) → Lowest device key k top → (i : ℕ) (vmk text : List ℕ) → Reached device g k top i vmk
       → openHeader vmk i (headerOf g device i) ≡ Text text → (HeaderFits g text → ⊥)
-      → OpenAnswered device g key maps owners perm (wiped g 8)
-  bad-entry : First (openRules g (length device) (length key) (length maps) (length owners) perm) 0 0
+      → OpenAnswered device g key maps owners perm (refusedEmpty 8 g)
+  bad-entry : Accepted device g key maps owners perm
       → (k : ℕ) (top keys : List ℕ) → Lowest device key k top → AllUnlocked device g k top keys
       → (n : ℕ) → n < (k + 1) * g .p → Sound (mapEntries g (headerOf g device) keys) (g .p) n
       → (mapEntries g (headerOf g device) keys n ≡ unmapped → ⊥) → g .p ≤ mapEntries g (headerOf g device) keys n
-      → OpenAnswered device g key maps owners perm (wiped g 9)
-  slice-twice : First (openRules g (length device) (length key) (length maps) (length owners) perm) 0 0
+      → OpenAnswered device g key maps owners perm (refusedEmpty 9 g)
+  slice-twice : Accepted device g key maps owners perm
       → (k : ℕ) (top keys : List ℕ) → Lowest device key k top → AllUnlocked device g k top keys
       → (n : ℕ) → n < (k + 1) * g .p → Sound (mapEntries g (headerOf g device) keys) (g .p) n
       → mapEntries g (headerOf g device) keys n < g .p
       → (m : ℕ) → m < n → mapEntries g (headerOf g device) keys m ≡ mapEntries g (headerOf g device) keys n
-      → OpenAnswered device g key maps owners perm (wiped g 10)
-  served : First (openRules g (length device) (length key) (length maps) (length owners) perm) 0 0
+      → OpenAnswered device g key maps owners perm (refusedEmpty 10 g)
+  served : Accepted device g key maps owners perm
       → (k : ℕ) (top : List ℕ) (o : OpenOutcome) → Lowest device key k top → AllUnlocked device g k top (o .session .keys)
       → Sound (mapEntries g (headerOf g device) (o .session .keys)) (g .p) ((k + 1) * g .p)
       → o .answer ≡ OpenTo k → OpenAnswered device g key maps owners perm o

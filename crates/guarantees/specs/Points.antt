@@ -1,58 +1,80 @@
 -- The three points of the mission, as statements about the model. Assumes nothing.
 use Prim.Native.Nat.{ℕ, _+_, _*_, _≤_, _<_}
 use mathlib.Core.Path.{_≡_}
-use mathlib.Core.List.{List}
+use mathlib.Core.List.{List, []}
 use mathlib.Core.Bool.{true}
-use lib.ListN.{length, getD}
+use lib.ListN.{length, getD, replicate}
+use Rattle.ctr.specs.CounterMode.{ctr}
 use Rattle.model.specs.declared.Geometry.{Geometry}
 use Rattle.model.specs.declared.Session.{Session}
-use Rattle.model.specs.declared.Change.{Change}
+use Rattle.model.specs.declared.Change.the-variants.{Claimed, Rewritten}
 use Rattle.model.specs.Parts.{part, patched}
-use Rattle.model.specs.Geometry.{cellOf, headerOf, sliceStart, sliceSize}
-use Rattle.model.specs.Session.{Held, held, Outcome, idle, geometry, keyOf, blockCount, entry, sliceOf, offsetOf, unmapped}
+use Rattle.model.specs.Geometry.{cellOf, headerOf, sliceStart, sliceSize, ivStart, blockStart}
+use Rattle.model.specs.Session.{Held, held, geometry, keyOf, blockCount, entry, entryOf, sliceOf, offsetOf, unmapped}
+use Rattle.model.specs.Conditions.{TablesFit}
 use Rattle.model.specs.Opening.{OpenOutcome, OpenTo, openModel, storedEntry}
-use Rattle.model.specs.Read.{ReadResult, Filled, readModel, blockOf, deciphered}
+use Rattle.model.specs.Read.{ReadResult, Filled, readModel, findModel, deciphered}
 use Rattle.model.specs.Write.{WriteResult, writeModel}
 use Rattle.model.specs.Close.{CloseResult, closeModel}
-use Rattle.guarantees.specs.Runs.{State, Call, Closing, Closes, outcome, next, final, events, positions, stores, allPlaces, Within}
-use Rattle.model.specs.Conditions.{TablesFit}
-use Rattle.guarantees.specs.Rules.{First, readRules, writeRules, closeRules, SearchEnds, Names}
+use Rattle.guarantees.specs.Runs.{State, Call, Writing, Closing, Writes, Closes, outcome, next, final, events, positions, allPlaces, Within}
+use Rattle.guarantees.specs.Rules.{First, readRules, writeRules, closeRules, SearchEnds, FirstFree, Names, heldEntry, sliceAt}
 use Rattle.guarantees.specs.Openings.{Lowest, AllUnlocked, OpenAnswered}
-use Rattle.guarantees.specs.Arrays.{Arrays, arraysAfterAll, heldAfterAll, AllDue}
+use Rattle.guarantees.specs.Effects.{heldAfterAll, storedByAll, Follows}
+use Rattle.guarantees.specs.Arrays.{Arrays, arraysAfterAll, AllDue}
 
 -- ---- point 1: any arguments
 
--- A read is served with its block, or refused by the first rule that applies; either way it changes nothing.
+-- A read is served with the block deciphered under its IV, or zeros where it is unmapped, or refused by the first rule that
+-- applies.
 pub data ReadAnswered (device maps owners : List ℕ) (s : Session) (i a room : ℕ) : ReadResult → Type 0 where
-  served : First (readRules (length device) maps owners s i a room) 0 0
-      → ReadAnswered device maps owners s i a room (Filled (blockOf device maps s i a))
+  mapped : First (readRules (length device) maps owners s i a room) 0 0 → entryOf maps (s .geometry) i a < s .geometry .p
+      → ReadAnswered device maps owners s i a room
+      (Filled (ctr (keyOf s i) (part (ivStart (s .geometry) (entryOf maps (s .geometry) i a) (offsetOf (s .geometry) a)) 16 device)
+      (part (blockStart (s .geometry) (entryOf maps (s .geometry) i a) (offsetOf (s .geometry) a)) (s .geometry .b) device)))
+  zeros : First (readRules (length device) maps owners s i a room) 0 0 → entryOf maps (s .geometry) i a ≡ unmapped
+      → ReadAnswered device maps owners s i a room (Filled (replicate (s .geometry .b) 0))
   refused : (n : ℕ) → (n ≡ 0 → ⊥) → First (readRules (length device) maps owners s i a room) n 0
       → ReadAnswered device maps owners s i a room (ReadResult.Refused n)
 
--- A write is served, or refused by the first rule that applies, with the places looked at, and then changes nothing; place
--- is where its search would end.
-pub data WriteAnswered (device : ℕ) (h : Held) (i a : ℕ) (text perm tape : List ℕ) : Outcome WriteResult → Type 0 where
-  served : (place probes : ℕ) (change : Change) (o : Outcome WriteResult) → o .answer ≡ WriteResult.Served change probes
-      → SearchEnds (h .owners) (geometry h .p) perm place
-      → First (writeRules device h i a text perm tape place) 0 0 → WriteAnswered device h i a text perm tape o
-  refused : (place n probes : ℕ) → (n ≡ 0 → ⊥) → SearchEnds (h .owners) (geometry h .p) perm place
-      → First (writeRules device h i a text perm tape place) n probes
-      → WriteAnswered device h i a text perm tape (idle h (WriteResult.Refused n probes))
+-- A find gives the stored block, and nothing where it is unmapped or a read with a right buffer is refused.
+pub data FindAnswered (device maps owners : List ℕ) (s : Session) (i a : ℕ) : List ℕ → Type 0 where
+  mapped : First (readRules (length device) maps owners s i a (s .geometry .b)) 0 0 → entryOf maps (s .geometry) i a < s .geometry .p
+      → FindAnswered device maps owners s i a
+      (part (blockStart (s .geometry) (entryOf maps (s .geometry) i a) (offsetOf (s .geometry) a)) (s .geometry .b) device)
+  nowhere : First (readRules (length device) maps owners s i a (s .geometry .b)) 0 0 → entryOf maps (s .geometry) i a ≡ unmapped
+      → FindAnswered device maps owners s i a []
+  refused : (n : ℕ) → (n ≡ 0 → ⊥) → First (readRules (length device) maps owners s i a (s .geometry .b)) n 0
+      → FindAnswered device maps owners s i a []
 
--- A close likewise.
-pub data CloseAnswered (device : ℕ) (h : Held) (tape : List ℕ) : Outcome CloseResult → Type 0 where
-  served : (o : Outcome CloseResult) → o .answer ≡ CloseResult.Closed → First (closeRules device h (length tape)) 0 0
-      → CloseAnswered device h tape o
-  refused : (n : ℕ) → (n ≡ 0 → ⊥) → First (closeRules device h (length tape)) n 0 → CloseAnswered device h tape (idle h (CloseResult.Refused n))
+-- A write rewrites the slice that is mapped, with 0 places looked at, or claims the slice at the first free place, with that place
+-- plus one; or it is refused by the first rule that applies, with the places looked at. place is where its search would end.
+pub data WriteAnswered (device : ℕ) (h : Held) (i a : ℕ) (text perm tape : List ℕ) : WriteResult → Type 0 where
+  rewritten : (place : ℕ) → SearchEnds (h .owners) (geometry h .p) perm place → First (writeRules device h i a text perm tape place) 0 0
+      → heldEntry h i a < geometry h .p → WriteAnswered device h i a text perm tape (WriteResult.Served (Rewritten (heldEntry h i a)) 0)
+  claimed : (place : ℕ) → FirstFree (h .owners) (geometry h .p) perm place → First (writeRules device h i a text perm tape place) 0 0
+      → heldEntry h i a ≡ unmapped
+      → WriteAnswered device h i a text perm tape (WriteResult.Served (Claimed (sliceAt perm place)) (place + 1))
+  refused : (place n probes : ℕ) → (n ≡ 0 → ⊥) → SearchEnds (h .owners) (geometry h .p) perm place
+      → First (writeRules device h i a text perm tape place) n probes → WriteAnswered device h i a text perm tape (WriteResult.Refused n probes)
+
+-- A close is served, or refused by the first rule that applies.
+pub data CloseAnswered (device : ℕ) (h : Held) (tape : List ℕ) : CloseResult → Type 0 where
+  served : First (closeRules device h (length tape)) 0 0 → CloseAnswered device h tape CloseResult.Closed
+  refused : (n : ℕ) → (n ≡ 0 → ⊥) → First (closeRules device h (length tape)) n 0 → CloseAnswered device h tape (CloseResult.Refused n)
 
 pub record Point1 : Type 0 where
-  pub reads : (device maps owners : List ℕ) (s : Session) (i a room : ℕ)
-      → ReadAnswered device maps owners s i a room (readModel device maps owners s i a room)
-  pub writes : (device : ℕ) (h : Held) (i a : ℕ) (text perm tape : List ℕ)
-      → WriteAnswered device h i a text perm tape (writeModel device h i a text perm tape)
-  pub closes : (device : ℕ) (h : Held) (tape : List ℕ) → CloseAnswered device h tape (closeModel device h tape)
+  -- The answer of each call, from any arguments; an opening with the tables and the session that it leaves.
   pub opens : (device : List ℕ) (g : Geometry) (key maps owners perm : List ℕ)
       → OpenAnswered device g key maps owners perm (openModel device g key maps owners perm)
+  pub reads : (device maps owners : List ℕ) (s : Session) (i a room : ℕ)
+      → ReadAnswered device maps owners s i a room (readModel device maps owners s i a room)
+  pub finds : (device maps owners : List ℕ) (s : Session) (i a : ℕ)
+      → FindAnswered device maps owners s i a (findModel device maps owners s i a)
+  pub writes : (device : ℕ) (h : Held) (i a : ℕ) (text perm tape : List ℕ)
+      → WriteAnswered device h i a text perm tape (writeModel device h i a text perm tape .answer)
+  pub closes : (device : ℕ) (h : Held) (tape : List ℕ) → CloseAnswered device h tape (closeModel device h tape .answer)
+  -- What each call stores and leaves, in any session, also one that no opening gave: refused, nothing.
+  pub follows : (st : State) (c : Call) → Follows (st .held) (outcome st c)
 
 -- ---- a served opening
 
@@ -99,6 +121,8 @@ pub record Opens (x : Handed) (k : ℕ) (entries : ℕ → ℕ → ℕ) (h : Hel
   pub same : geometry h ≡ x .geometry
   pub top : h .session .k ≡ k
   pub position : h .position ≡ x .position
+  pub keys-long : length (h .session .keys) ≡ 480
+  pub keys-above : (i : ℕ) → k < i → i < 15 → keyOf (h .session) i ≡ replicate 32 0
   pub maps-long : length (h .maps) ≡ 15 * x .geometry .p
   pub owners-long : length (h .owners) ≡ x .geometry .p
   pub mapped : (i σ : ℕ) → i ≤ k → σ < x .geometry .p → entry (h .maps) (geometry h) i σ ≡ entries i σ
@@ -117,8 +141,8 @@ pub record Run (s : List ℕ) (x : Handed) (l : Lent) (k : ℕ) (cs : List Call)
   -- Every answer is the one that the arrays give, and what is held follows from the answers.
   pub due : AllDue (firstArrays s x l) (begin s x l) cs
   pub held : final (begin s x l) cs .held ≡ heldAfterAll (holds s x l) (events (begin s x l) cs)
-  -- The device is the first one with the patches stored in order, and is its own but for the written places.
-  pub stored : final (begin s x l) cs .device ≡ patched (stores (begin s x l) cs) s
+  -- The device is the first one with what the calls store in order, and is its own but for the written places.
+  pub stored : final (begin s x l) cs .device ≡ patched (storedByAll (holds s x l) (events (begin s x l) cs)) s
   pub kept : (p : ℕ) → (Within p (allPlaces (x .geometry) k (events (begin s x l) cs)) → ⊥) → getD (final (begin s x l) cs .device) p 0 ≡ getD s p 0
   -- Closed and opened again with the same key, any permutation that names each slice and any tables: the same arrays.
   pub again : (tape : List ℕ) → outcome (final (begin s x l) cs) (Closing tape) .answer ≡ Closes tape CloseResult.Closed
@@ -140,12 +164,11 @@ pub record Agree (s t : List ℕ) (x : Handed) (l : Lent) (k : ℕ) : Type 0 whe
   pub slices : (i ψ : ℕ) → i ≤ k → ψ < x .geometry .p → Maps (mapEntry s x l) (x .geometry .p) i ψ
       → sliceBytes (x .geometry) s ψ ≡ sliceBytes (x .geometry) t ψ
 
--- Two runs of one list: equal answers, tape positions, tables and session, equal patches, and equal bytes where they wrote.
+-- Two runs of one list: equal answers, tape positions, tables and session, and equal bytes where they wrote.
 pub record EqualRuns (k : ℕ) (st st′ : State) (cs : List Call) : Type 0 where
   pub same-events : events st cs ≡ events st′ cs
   pub same-positions : positions st cs ≡ positions st′ cs
   pub same-held : final st cs .held ≡ final st′ cs .held
-  pub same-stores : stores st cs ≡ stores st′ cs
   pub written : (p : ℕ) → Within p (allPlaces (geometry (st .held)) k (events st cs)) → getD (final st cs .device) p 0 ≡ getD (final st′ cs .device) p 0
 
 -- ---- points 2 and 3, of a served opening
@@ -165,3 +188,28 @@ pub record Guarantee (s : List ℕ) (x : Handed) (l : Lent) (k : ℕ) : Type 0 w
 
 abbrev pub Points23 : Type 0
 Points23 = (s : List ℕ) (x : Handed) (l : Lent) (k : ℕ) → opens s x l .answer ≡ OpenTo k → Guarantee s x l k
+
+-- ---- the accident of the case: a slice that two volumes hold
+
+-- Two entries of open volumes that name one slice are one entry. A slice that an entry names has its volume as owner, and one that
+-- none names is free.
+pub record HeldOnce (h : Held) : Type 0 where
+  pub once : (i σ j τ : ℕ) → i ≤ h .session .k → j ≤ h .session .k → σ < geometry h .p → τ < geometry h .p
+      → entry (h .maps) (geometry h) i σ < geometry h .p → entry (h .maps) (geometry h) i σ ≡ entry (h .maps) (geometry h) j τ
+      → (i ≡ j) × (σ ≡ τ)
+  pub owner : (i ψ : ℕ) → i ≤ h .session .k → ψ < geometry h .p → Maps (entry (h .maps) (geometry h)) (geometry h .p) i ψ
+      → getD (h .owners) ψ 0 ≡ i + 1
+  pub free : (ψ : ℕ) → ψ < geometry h .p → ((i : ℕ) → i ≤ h .session .k → Maps (entry (h .maps) (geometry h)) (geometry h .p) i ψ → ⊥)
+      → getD (h .owners) ψ 0 ≡ 0
+
+-- After every list of calls, while the session is open: no slice is held twice and no held slice is free; and a slice that the next
+-- call claims is one that no entry of an open volume names.
+pub record NeverTwice (st : State) (cs : List Call) : Type 0 where
+  pub apart : final st cs .held .session .opened ≡ true → HeldOnce (final st cs .held)
+  pub fresh : (i a : ℕ) (text perm tape : List ℕ) (ψ probes : ℕ)
+      → outcome (final st cs) (Writing i a text perm tape) .answer ≡ Writes i a text perm tape (WriteResult.Served (Claimed ψ) probes)
+      → (j : ℕ) → j ≤ final st cs .held .session .k
+      → Maps (entry (final st cs .held .maps) (geometry (final st cs .held))) (geometry (final st cs .held) .p) j ψ → ⊥
+
+abbrev pub NoSliceTwice : Type 0
+NoSliceTwice = (s : List ℕ) (x : Handed) (l : Lent) (k : ℕ) → opens s x l .answer ≡ OpenTo k → (cs : List Call) → NeverTwice (begin s x l) cs

@@ -28,6 +28,10 @@ First (r ∷ rs) n c = (r .holds × (n ≡ r .number) × (c ≡ r .probes)) ⊎ 
 
 -- ---- conditions
 
+-- The entry of block address a of volume i in the held map table.
+abbrev pub heldEntry : Held → (i a : ℕ) → ℕ
+heldEntry h i a = entryOf (h .maps) (geometry h) i a
+
 -- The slice at a place of a permutation.
 abbrev pub sliceAt : List ℕ → ℕ → ℕ
 sliceAt perm n = getD perm n 0
@@ -98,10 +102,10 @@ writeRules device h i a text perm tape n =
     standingRules device (length (h .maps)) (length (h .owners)) (h .session)
     ++ (rule 5 (length perm ≡ geometry h .p → ⊥)
     ∷ (askedRules (h .maps) (h .session) i a (length text)
-    ++ (rule 21 ((entryOf (h .maps) (geometry h) i a < geometry h .p) × (Enough (length tape) (h .position) 16 → ⊥))
-    ∷ record { number = 5; probes = n + 1; holds = (entryOf (h .maps) (geometry h) i a ≡ unmapped) × FirstBad (h .owners) (geometry h .p) perm n }
-    ∷ record { number = 22; probes = geometry h .p; holds = (entryOf (h .maps) (geometry h) i a ≡ unmapped) × AllHeld (h .owners) (geometry h .p) perm (length perm) }
-    ∷ record { number = 21; probes = n + 1; holds = (entryOf (h .maps) (geometry h) i a ≡ unmapped) × (Enough (length tape) (h .position) (geometry h .b) → ⊥) }
+    ++ (rule 21 ((heldEntry h i a < geometry h .p) × (Enough (length tape) (h .position) 16 → ⊥))
+    ∷ record { number = 5; probes = n + 1; holds = (heldEntry h i a ≡ unmapped) × FirstBad (h .owners) (geometry h .p) perm n }
+    ∷ record { number = 22; probes = geometry h .p; holds = (heldEntry h i a ≡ unmapped) × AllHeld (h .owners) (geometry h .p) perm (length perm) }
+    ∷ record { number = 21; probes = n + 1; holds = (heldEntry h i a ≡ unmapped) × (Enough (length tape) (h .position) (geometry h .b) → ⊥) }
     ∷ [])))
 
 -- Close: 20, 2, 4, then 9 for a bad entry in rows 0 to k, then 21.

@@ -6,7 +6,7 @@ use mathlib.Core.List.{List, [], _∷_, _++_}
 use lib.ListN.{length}
 use Rattle.model.specs.declared.Geometry.{Geometry}
 use Rattle.model.specs.declared.Change.the-variants.{Claimed, Rewritten}
-use Rattle.model.specs.Parts.{Patch, patched}
+use Rattle.model.specs.Parts.{patched}
 use Rattle.model.specs.Geometry.{sliceStart, sliceSize, ivStart, blockStart, mapStart, mapBlocks}
 use Rattle.model.specs.Session.{Held, Outcome, idle, offsetOf}
 use Rattle.model.specs.Read.{ReadResult, readModel, findModel}
@@ -65,11 +65,6 @@ events st (c ∷ cs) = outcome st c .answer ∷ events (next st c) cs
 unfoldable pub positions : State → List Call → List ℕ
 positions st [] = []
 positions st (c ∷ cs) = next st c .held .position ∷ positions (next st c) cs
-
--- The patches of the calls, in order.
-unfoldable pub stores : State → List Call → List Patch
-stores st [] = []
-stores st (c ∷ cs) = outcome st c .patches ++ stores (next st c) cs
 
 -- ---- written places, from requests and answers alone
 

@@ -1,8 +1,9 @@
 // The guarantees: the three points of the mission as theorems about the model, points 2 and 3 about lists of calls.
 // Each function here runs nothing; its `ensures` is the statement that the check has to prove.
-ghost use Rattle.guarantees.specs.Points.{Point1, Points23};
+ghost use Rattle.guarantees.specs.Points.{Point1, Points23, NoSliceTwice};
 
-// Point 1: any call with any arguments is served or refused by the first listed refusal that applies.
+// Point 1: any call with any arguments is served or refused by the first listed refusal that applies, and what it stores and
+// leaves follows from its answer.
 pub fn point_one()
     ensures { λ r. ⌜ Point1 ⌝ }
 {}
@@ -10,4 +11,9 @@ pub fn point_one()
 // Points 2 and 3, from a served opening on.
 pub fn points_two_and_three()
     ensures { λ r. ⌜ Points23 ⌝ }
+{}
+
+// The accident of the case: over every list of calls no slice is held twice, and a claim takes a slice that nobody holds.
+pub fn no_slice_twice()
+    ensures { λ r. ⌜ NoSliceTwice ⌝ }
 {}

@@ -14,7 +14,7 @@ use Rattle.model.specs.Parts.{choose, part, joined}
 use Rattle.model.specs.Geometry.{ivStart, blockStart}
 use Rattle.model.specs.Read.{deciphered}
 use Rattle.model.specs.Write.{claimedBytes}
-use Rattle.model.proofs.Parts.{part-left, part-right, joined-part}
+use Rattle.model.proofs.Parts.{part-left, part-right, part-first, joined-part}
 
 module _ (g : Geometry) (key : List ℕ) (ψ j : ℕ) (device : List ℕ) where
   pub deciphered-mapped : ψ < g .p
@@ -38,6 +38,10 @@ claimedBlock-length b key ivs j text e n = ctr-length _ _ _ ∙ go (eqb n j)
     go : (x : Bool) → length (choose x text (replicate b 0)) ≡ b
     go true = e
     go false = length-replicate b 0
+
+pub claimed-ivs : (b s : ℕ) (key ivs : List ℕ) (j : ℕ) (text : List ℕ) → length ivs ≡ b → part 0 b (claimedBytes b s key ivs j text) ≡ ivs
+unfolding claimedBytes
+claimed-ivs b s key ivs j text e = part-first ivs _ b e
 
 module _ (b s : ℕ) (key ivs : List ℕ) (j : ℕ) (text : List ℕ) (ivsl : length ivs ≡ b) (fit : 16 * s ≤ b) (textl : length text ≡ b) where
   abbrev bytes : List ℕ

@@ -6,3 +6,5 @@ pub mod Requests
 pub mod Cells
 pub mod Blocks
 pub mod MapBlocks
+pub mod Seals
+pub mod Keys

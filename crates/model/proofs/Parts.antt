@@ -30,6 +30,18 @@ module _ {ℓ} {A : Type ℓ} where
   pub part-right : (p q : List A) (k : ℕ) → length p ≡ k → (x u : ℕ) → part (k + x) u (p ++ q) ≡ part x u q
   part-right p q k e x u = ap (λ (y : ℕ). part (y + x) u (p ++ q)) (sym e) ∙ ap (take u) (drop-append-add p q x)
 
+  -- The first of lists end to end, the next, and the last.
+  pub part-first : (p q : List A) (n : ℕ) → length p ≡ n → part 0 n (p ++ q) ≡ p
+  part-first p q n e = part-left p q 0 n (omega arith) ∙ take-all n p (omega arith)
+
+  pub part-next : (p q r : List A) (n m : ℕ) → length p ≡ n → length q ≡ m → part n m (p ++ (q ++ r)) ≡ q
+  part-next p q r n m e f =
+      ap (λ (y : ℕ). part y m (p ++ (q ++ r))) (sym (add-zero n)) ∙ part-right p (q ++ r) n e 0 m ∙ part-first q r m f
+
+  pub part-last : (p q : List A) (n m : ℕ) → length p ≡ n → length q ≡ m → part n m (p ++ q) ≡ q
+  part-last p q n m e f =
+      ap (λ (y : ℕ). part y m (p ++ q)) (sym (add-zero n)) ∙ part-right p q n e 0 m ∙ take-all m q (omega arith)
+
   part-take : (s : List A) (w x n : ℕ) → x + n ≤ w → part x n (take w s) ≡ part x n s
   part-take [] zero x n h = refl
   part-take [] (suc w) x n h = refl
@@ -61,6 +73,11 @@ pub take-replicate : (n m x : ℕ) → n ≤ m → take n (replicate m x) ≡ re
 take-replicate zero m x l = refl
 take-replicate (suc n) zero x l = absurd (omega arith)
 take-replicate (suc n) (suc m) x l = ap (λ (r : List ℕ). x ∷ r) (take-replicate n m x (omega arith))
+
+pub part-replicate : (a n m x : ℕ) → a + n ≤ m → part a n (replicate m x) ≡ replicate n x
+part-replicate zero n m x l = take-replicate n m x (omega arith)
+part-replicate (suc a) n zero x l = absurd (omega arith)
+part-replicate (suc a) n (suc m) x l = part-replicate a n m x (omega arith)
 
 -- ---- overlay, by parts
 
@@ -171,7 +188,14 @@ unfolding patched
 patched-++ [] qs s = refl
 patched-++ (x ∷ ps) qs s = patched-++ ps qs (overlay s (x .at) (x .bytes))
 
--- ---- joined, where each piece has w elements
+-- ---- joined
+
+pub joined-ext : {A : Type 0} (n : ℕ) (f f′ : ℕ → List A) → ((j : ℕ) → j < n → f j ≡ f′ j) → joined n f ≡ joined n f′
+unfolding joined
+joined-ext zero f f′ e = refl
+joined-ext {A = A} (suc n) f f′ e = ap₂ (λ (p q : List A). p ++ q) (joined-ext n f f′ (λ j h. e j (omega arith))) (e n (omega arith))
+
+-- Where each piece has w elements.
 
 module _ {ℓ} {A : Type ℓ} (w : ℕ) where
   pub joined-length : (n : ℕ) (f : ℕ → List A) → ((j : ℕ) → j < n → length (f j) ≡ w) → length (joined n f) ≡ n * w

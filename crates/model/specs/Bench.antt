@@ -1,4 +1,5 @@
--- The starred bench cases of document 01 ("Bench cases") as rows of one table. Assumes nothing.
+-- The starred bench cases of document 01 ("Bench cases") as rows of one table, and rows for the places that they leave open.
+-- Assumes nothing.
 use Prim.Native.Nat.{ℕ, _+_, _*_}
 use mathlib.Core.Path.{_≡_}
 use mathlib.Core.Bool.{true}
@@ -11,8 +12,9 @@ use Rattle.model.specs.declared.Geometry.{Geometry}
 use Rattle.model.specs.declared.Session.{Session}
 use Rattle.model.specs.declared.Search.{Search}
 use Rattle.model.specs.declared.Search.the-variants.{Free, Bad, Full}
-use Rattle.model.specs.Geometry.{mapBlocks, headerBlocks, deviceLength, cellStart, blockStart}
-use Rattle.model.specs.Session.{held, unmapped, standing, asked, noKeys}
+use Rattle.model.specs.Geometry.{mapBlocks, headerBlocks, deviceLength, numberAt, fourBytes, cellStart, headerStart, mapStart}
+use Rattle.model.specs.Geometry.{sliceStart, sliceSize, ivStart, blockStart}
+use Rattle.model.specs.Session.{held, unmapped, slot, sliceOf, offsetOf, standing, asked, noKeys}
 use Rattle.model.specs.Write.{firstFree, claimOutcome, WriteResult}
 
 -- A geometry by its three numbers, and stick A of the document.
@@ -82,6 +84,16 @@ cases =
     ∷ row (sbox 0x00 ∷ sbox 0x01 ∷ times 0x57 0x83 ∷ []) (0x63 ∷ 0x7c ∷ 0xc1 ∷ [])
     -- Counter of 16 bytes FF, plus one: 16 bytes 00.
     ∷ row (increment (replicate 16 0xFF)) (replicate 16 0x00)
+    -- Beyond the starred cases. The mark is four bytes FF, both ways.
+    ∷ row (numberAt 0 (replicate 4 0xFF) ∷ fourBytes unmapped) (4294967295 ∷ replicate 4 0xFF)
+    -- A: header 14 begins at device block 29, its map at block 30. P 253 (m 2): header 1 at block 4, its map at block 5.
+    ∷ row (headerStart stickA 14 ∷ mapStart stickA 14 ∷ []) ((29 * 1024) ∷ (30 * 1024) ∷ [])
+    ∷ row (headerStart (sized 1024 4 253) 1 ∷ mapStart (sized 1024 4 253) 1 ∷ []) ((4 * 1024) ∷ (5 * 1024) ∷ [])
+    -- A: slice 2 is device blocks 41 to 45; the IV of its block 3 is bytes 48 to 63 of block 41, its blocks 0 and 1 are 42 and 43.
+    ∷ row (sliceStart stickA 2 ∷ sliceSize stickA ∷ ivStart stickA 2 3 ∷ []) ((41 * 1024) ∷ (5 * 1024) ∷ (41 * 1024 + 48) ∷ [])
+    ∷ row (blockStart stickA 2 0 ∷ blockStart stickA 2 1 ∷ []) ((42 * 1024) ∷ (43 * 1024) ∷ [])
+    -- A: address 13 is offset 1 of logical slice 3; entry 1 of volume 2 is at place 9 of the map table.
+    ∷ row (sliceOf stickA 13 ∷ offsetOf stickA 13 ∷ slot stickA 2 1 ∷ []) (3 ∷ 1 ∷ 9 ∷ [])
     ∷ []
 
 -- The claim: in every row the definitions give what the document says.

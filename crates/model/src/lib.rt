@@ -1,6 +1,6 @@
 // The types that the engine's calls speak of. What each call answers and leaves stands in specs/, in the order of
 // document 01; nothing here runs.
-ghost use Rattle.model.specs.Theorems.{ModelLaws};
+ghost use Rattle.model.specs.Theorems.{SealingLaws, AnswerLaws, ModelLaws};
 ghost use Rattle.model.specs.Bench.{cases, AllHold};
 use refusals::Answer;
 use refusals::Refusal;
@@ -70,7 +70,16 @@ pub enum Search {
     Full,
 }
 
-// The laws of the definitions: nothing runs, and the check has to prove them.
+// The laws of the definitions: nothing runs, and the check has to prove them. What is sealed opens; contracts drop nothing
+// of an answer; what calls find, write and leave.
+pub fn sealing_laws()
+    ensures { λ r. ⌜ SealingLaws ⌝ }
+{}
+
+pub fn answer_laws()
+    ensures { λ r. ⌜ AnswerLaws ⌝ }
+{}
+
 pub fn model_laws()
     ensures { λ r. ⌜ ModelLaws ⌝ }
 {}

@@ -1,0 +1,111 @@
+-- What each call stores on the device and what is held after it, from the request and its answer alone (document 01, "Write",
+-- "Close", and "Two sticks compared": the bytes "that the rules for the last call writing there give"). The words are the
+-- document's and not the model's. Assumes nothing.
+use Prim.Native.Nat.{ℕ, zero, suc, _+_, _*_}
+use mathlib.Core.Path.{_≡_}
+use mathlib.Core.List.{List, [], _∷_, _++_}
+use mathlib.Core.Bool.{false}
+use lib.ListN.{getD, set, replicate}
+use lib.Dec.{eqb}
+use Rattle.ctr.specs.CounterMode.{ctr}
+use Rattle.model.specs.declared.Geometry.{Geometry}
+use Rattle.model.specs.declared.Change.the-variants.{Claimed, Rewritten}
+use Rattle.model.specs.Parts.{choose, part, joined, Patch}
+use Rattle.model.specs.Geometry.{perBlock, mapBlocks, fourBytes, mapStart, sliceStart, ivStart, blockStart}
+use Rattle.model.specs.Session.{Held, Outcome, geometry, keyOf, slot, sliceOf, offsetOf, unmapped}
+use Rattle.model.specs.Write.{WriteResult}
+use Rattle.model.specs.Close.{CloseResult}
+use Rattle.guarantees.specs.Runs.{Event, Reads, Finds, Writes, Closes}
+
+-- ---- the tape
+
+-- The next n bytes of a tape.
+abbrev pub drawn : Held → (tape : List ℕ) → (n : ℕ) → List ℕ
+drawn h tape n = part (h .position) n tape
+
+-- The tape bytes of a close: 16 for each map block of volumes 0 to k.
+abbrev pub closeBytes : Held → ℕ
+closeBytes h = 16 * mapBlocks (geometry h) * (h .session .k + 1)
+
+-- ---- what is held
+
+-- A rewrite draws 16 tape bytes. A claim draws B, and sets its entry and its owner. A close draws 16 for each map block and leaves
+-- marks, owners and keys 0, and a closed session with its geometry and k. Nothing else changes what is held.
+unfoldable pub heldAfter : Held → Event → Held
+heldAfter h (Writes i a text perm tape (WriteResult.Served (Rewritten ψ) probes)) =
+    record { maps = h .maps; owners = h .owners; position = h .position + 16; session = h .session }
+heldAfter h (Writes i a text perm tape (WriteResult.Served (Claimed ψ) probes)) =
+    record {
+      maps = set (h .maps) (slot (geometry h) i (sliceOf (geometry h) a)) ψ;
+      owners = set (h .owners) ψ (i + 1);
+      position = h .position + geometry h .b;
+      session = h .session;
+    }
+heldAfter h (Writes i a text perm tape (WriteResult.Refused n probes)) = h
+heldAfter h (Closes tape CloseResult.Closed) =
+    record {
+      maps = replicate (15 * geometry h .p) unmapped;
+      owners = replicate (geometry h .p) 0;
+      position = h .position + closeBytes h;
+      session = record { geometry = geometry h; k = h .session .k; keys = replicate 480 0; opened = false };
+    }
+heldAfter h (Closes tape (CloseResult.Refused n)) = h
+heldAfter h (Reads i a room r) = h
+heldAfter h (Finds i a bytes) = h
+
+unfoldable pub heldAfterAll : Held → List Event → Held
+heldAfterAll h [] = h
+heldAfterAll h (e ∷ es) = heldAfterAll (heldAfter h e) es
+
+-- ---- what is stored
+
+-- Map block t of volume i: its IV, then the entries from t × (B - 16)/4 on in row i of the map table, in counter mode under the
+-- VEK; past the last entry the mark.
+abbrev pub mapStored : (maps : List ℕ) → Geometry → (vek iv : List ℕ) → (i t : ℕ) → List ℕ
+mapStored maps g vek iv i t =
+    iv ++ ctr vek iv (joined (perBlock g) (λ e. fourBytes (getD (part (i * g .p) (g .p) maps) (t * perBlock g + e) unmapped)))
+
+-- The maps of the first n volumes in order, each map block with the next 16 of the bytes drawn as its IV.
+unfoldable pub mapsStored : Held → (ivs : List ℕ) → (n : ℕ) → List Patch
+mapsStored h ivs zero = []
+mapsStored h ivs (suc n) =
+    mapsStored h ivs n
+    ++ record {
+      at = mapStart (geometry h) n;
+      bytes =
+          joined (mapBlocks (geometry h))
+          (λ t. mapStored (h .maps) (geometry h) (keyOf (h .session) n) (part (16 * (mapBlocks (geometry h) * n + t)) 16 ivs) n t);
+    }
+    ∷ []
+
+-- A rewrite stores the 16 bytes drawn as the block's IV, and the ciphertext over the old block. A claim stores the B bytes drawn as
+-- the IV block, and S data blocks, each enciphered under its own IV: zeros but for the block asked for. A close stores the maps of
+-- volumes 0 to k. Nothing else stores a byte.
+unfoldable pub storedBy : Held → Event → List Patch
+storedBy h (Writes i a text perm tape (WriteResult.Served (Rewritten ψ) probes)) =
+    record { at = ivStart (geometry h) ψ (offsetOf (geometry h) a); bytes = drawn h tape 16 }
+    ∷ record { at = blockStart (geometry h) ψ (offsetOf (geometry h) a); bytes = ctr (keyOf (h .session) i) (drawn h tape 16) text }
+    ∷ []
+storedBy h (Writes i a text perm tape (WriteResult.Served (Claimed ψ) probes)) =
+    record {
+      at = sliceStart (geometry h) ψ;
+      bytes =
+          drawn h tape (geometry h .b)
+          ++ joined (geometry h .s) (λ n. ctr (keyOf (h .session) i) (part (16 * n) 16 (drawn h tape (geometry h .b)))
+          (choose (eqb n (offsetOf (geometry h) a)) text (replicate (geometry h .b) 0)));
+    }
+    ∷ []
+storedBy h (Writes i a text perm tape (WriteResult.Refused n probes)) = []
+storedBy h (Closes tape CloseResult.Closed) = mapsStored h (drawn h tape (closeBytes h)) (h .session .k + 1)
+storedBy h (Closes tape (CloseResult.Refused n)) = []
+storedBy h (Reads i a room r) = []
+storedBy h (Finds i a bytes) = []
+
+unfoldable pub storedByAll : Held → List Event → List Patch
+storedByAll h [] = []
+storedByAll h (e ∷ es) = storedBy h e ++ storedByAll (heldAfter h e) es
+
+-- What a call stores, and what is held after it, follow from its request and its answer.
+pub record Follows (h : Held) (o : Outcome Event) : Type 0 where
+  pub stored : o .patches ≡ storedBy h (o .answer)
+  pub held : o .held ≡ heldAfter h (o .answer)

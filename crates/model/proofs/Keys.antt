@@ -1,0 +1,24 @@
+-- The data keys of an opening: 15 of 32 bytes, zeros above k. Assumes nothing.
+use Prim.Native.Nat.{ℕ, _+_, _-_, _*_, _≤_, _<_}
+use mathlib.Core.Path.{_≡_, sym, ap, _∙_}
+use mathlib.Core.List.{List}
+use native.Mathlib.Omega.{arith}
+use lib.ListN.{length, replicate, length-append, length-replicate}
+use Rattle.model.specs.Parts.{part}
+use Rattle.model.specs.Opening.{allKeys}
+use Rattle.model.proofs.Parts.{part-right, part-replicate}
+
+module _ (keys : List ℕ) (k : ℕ) (e : length keys ≡ 32 * (k + 1)) (l : k < 15) where
+  abbrev zeros : List ℕ
+  zeros = replicate (32 * (14 - k)) 0
+
+  pub allKeys-length : length (allKeys keys k) ≡ 480
+  allKeys-length = omega (arith, length-append keys zeros, length-replicate {A = ℕ} (32 * (14 - k)) 0)
+
+  pub allKeys-above : (i : ℕ) → k < i → i < 15 → part (32 * i) 32 (allKeys keys k) ≡ replicate 32 0
+  allKeys-above i lo hi =
+      let x = 32 * (i - (k + 1)) in
+      let at : 32 * i ≡ 32 * (k + 1) + x = omega arith in
+      ap (λ (y : ℕ). part y 32 (allKeys keys k)) at
+      ∙ part-right keys zeros (32 * (k + 1)) e x 32
+      ∙ part-replicate x 32 (32 * (14 - k)) 0 (omega arith)

@@ -1,0 +1,28 @@
+-- `model::answer_laws` meets its contract: each law computes, but for those of what a call leaves. Assumes nothing.
+use mathlib.Core.Path.{refl}
+use Rattle.model.specs.Theorems.{LeavesAll}
+use Rattle.model.proofs.answer_laws.Statement.{statement}
+use Rattle.model.proofs.answer_laws.Tie as tie
+
+leaves-all : (A : Type 0) → LeavesAll A
+leaves-all A o before answer device maps owners position s l =
+    (l .answered, l .stored, rw (l .mapped, l .owned, l .moved, l .handed) refl)
+
+returns : tie.Need-returns
+returns c =
+    record {
+      open-served = λ k. refl;
+      open-refused = λ r. refl;
+      open-leaves = λ o answer maps owners s l. rw (l .answered, l .mapped, l .owned, l .handed) refl;
+      read-served = λ bytes old. (refl, refl);
+      read-refused = λ n old. (refl, refl);
+      write-served = λ change probes. refl;
+      write-refused = λ r probes. refl;
+      write-leaves = leaves-all _;
+      close-served = refl;
+      close-refused = λ r. refl;
+      close-leaves = leaves-all _;
+    }
+
+pub answer-laws-spec : {M : Type 1} → statement M
+answer-laws-spec = tie.close (tie.spec returns)
