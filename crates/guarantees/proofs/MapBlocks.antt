@@ -1,31 +1,27 @@
 -- What a close stores in the map blocks is what the statements say, and deciphers to the entries held. Assumes nothing.
-use Prim.Native.Nat.{ℕ, zero, suc, _+_, _-_, _*_, _/_, _%_, _^_, _≤_, _<_}
+use Prim.Native.Nat.{ℕ, zero, suc, _+_, _-_, _*_, _/_, _%_, _≤_, _<_}
 use mathlib.Core.Path.{_≡_, refl, sym, ap, ap₂, _∙_}
 use mathlib.Core.List.{List, [], _∷_, _++_}
 use mathlib.Core.Logic.{⊎-elim}
 use native.Mathlib.Omega.{arith}
-use native.Mathlib.Nat.{add-zero, zero-add, div-add-mod', mod-lt, mod-eq-of-lt, mul-comm, mul-le-mul-left, mul-le-mul-right}
+use native.Mathlib.Nat.{add-zero, div-add-mod', mod-lt, mul-comm, mul-le-mul-left, mul-le-mul-right}
 use native.Mathlib.Nat.{eq-or-lt-of-le, le-of-suc-le-suc}
 use lib.ListN.{length}
 use lib.Seq.{take-all}
 use lib.Dec.{ltb}
 use borrow.Author.Tests.{lt-ltb}
-use Rattle.block.specs.Bytes.{number}
-use Rattle.block.proofs.Bytes.{number-bigEndian, bigEndian-length}
-use Rattle.ctr.specs.CounterMode.{ctr}
-use Rattle.ctr.proofs.Stream.{ctr-twice, ctr-length}
 use Rattle.model.specs.declared.Geometry.{Geometry}
 use Rattle.model.specs.Parts.{choose, part, overlay, Patch, patched}
-use Rattle.model.specs.Geometry.{perBlock, mapBlocks, deviceLength, numberAt, fourBytes, headerStart, headerOf, mapStart, Allowed}
+use Rattle.model.specs.Geometry.{perBlock, mapBlocks, deviceLength, headerStart, headerOf, mapStart, Allowed}
 use Rattle.model.specs.Session.{Held, geometry, keyOf, entry, unmapped}
 use Rattle.model.specs.Opening.{storedEntry}
 use Rattle.model.specs.Close.{mapText, mapBlock, mapBytes, mapPatches}
 use Rattle.model.specs.Conditions.{EntryFits, Enough}
 use Rattle.guarantees.specs.Runs.{Range, mapRanges}
 use Rattle.guarantees.specs.Effects.{mapStored, mapsStored}
-use Rattle.model.proofs.Parts.{part-length, part-left, part-right, part-part, overlay-before, overlay-within, joined-length, joined-part}
+use Rattle.model.proofs.Parts.{part-length, part-part, overlay-before, overlay-within, joined-length}
 use Rattle.model.proofs.Parts.{joined-ext, joined-piece, patched-++}
-use Rattle.model.proofs.Bounds.{b-bounds, perBlock-least, mapBlock-of, maps-fit}
+use Rattle.model.proofs.Bounds.{perBlock-least, mapBlock-of, maps-fit}
 use Rattle.model.proofs.MapBlocks.{mapBlock-length, mapBlock-row}
 use Rattle.model.proofs.Seals.{sealed-entry}
 use Rattle.guarantees.proofs.Patches.{rangesOf, ranges-++, patched-length}

@@ -7,15 +7,14 @@ use mathlib.Core.Bool.{true, _&&_}
 use lib.ListN.{length}
 use lib.Dec.{eqb}
 use Rattle.model.specs.declared.Change.the-variants.{Claimed, Rewritten}
-use Rattle.model.specs.Parts.{choose, part}
-use Rattle.model.specs.Geometry.{blockStart}
-use Rattle.model.specs.Session.{Held, geometry, blockCount, offsetOf, unmapped}
+use Rattle.model.specs.Parts.{choose}
+use Rattle.model.specs.Session.{Held, geometry, blockCount, unmapped}
 use Rattle.model.specs.Read.{ReadResult}
 use Rattle.model.specs.Write.{WriteResult}
 use Rattle.model.specs.Close.{CloseResult}
 use Rattle.guarantees.specs.Runs.{State, Call, Event, Reads, Finds, Writes, Closes, outcome, next}
 use Rattle.model.specs.Conditions.{Enough}
-use Rattle.guarantees.specs.Rules.{sliceAt, AllHeld, FirstFree, FirstBad, heldEntry}
+use Rattle.guarantees.specs.Rules.{heldEntry, blockIn, sliceAt, AllHeld, FirstFree, FirstBad}
 use Rattle.guarantees.specs.Effects.{closeBytes}
 
 -- Block a of volume i.
@@ -66,7 +65,7 @@ pub data ReadDue (arrays : Arrays) (h : Held) (i a room : ℕ) : ReadResult → 
 -- A find gives the stored block, and nothing where a read with a right buffer is refused or the slice is unmapped.
 pub data FindDue (device : List ℕ) (h : Held) (i a : ℕ) : List ℕ → Type 0 where
   found : Fits h (geometry h .p) i a (geometry h .b) → heldEntry h i a < geometry h .p
-      → FindDue device h i a (part (blockStart (geometry h) (heldEntry h i a) (offsetOf (geometry h) a)) (geometry h .b) device)
+      → FindDue device h i a (blockIn device (geometry h) (heldEntry h i a) a)
   nowhere : (Fits h (geometry h .p) i a (geometry h .b) → heldEntry h i a ≡ unmapped) → FindDue device h i a []
 
 -- A write that fits is served but where the tape is short (21), every slice held (22) or a place without slice met first (5).

@@ -9,7 +9,7 @@ use Rattle.model.specs.declared.Geometry.{Geometry}
 use Rattle.model.specs.declared.Session.{Session}
 use Rattle.model.specs.declared.Change.the-variants.{Claimed, Rewritten}
 use Rattle.model.specs.Parts.{part, patched}
-use Rattle.model.specs.Geometry.{cellOf, headerOf, sliceStart, sliceSize, ivStart, blockStart}
+use Rattle.model.specs.Geometry.{cellOf, headerOf, sliceStart, sliceSize}
 use Rattle.model.specs.Session.{Held, held, geometry, keyOf, blockCount, entry, entryOf, sliceOf, offsetOf, unmapped}
 use Rattle.model.specs.Conditions.{TablesFit}
 use Rattle.model.specs.Opening.{OpenOutcome, OpenTo, openModel, storedEntry}
@@ -17,8 +17,8 @@ use Rattle.model.specs.Read.{ReadResult, Filled, readModel, findModel, decipher
 use Rattle.model.specs.Write.{WriteResult, writeModel}
 use Rattle.model.specs.Close.{CloseResult, closeModel}
 use Rattle.guarantees.specs.Runs.{State, Call, Writing, Closing, Writes, Closes, outcome, next, final, events, positions, allPlaces, Within}
-use Rattle.guarantees.specs.Rules.{First, readRules, writeRules, closeRules, SearchEnds, FirstFree, Names, heldEntry, sliceAt}
-use Rattle.guarantees.specs.Openings.{Lowest, AllUnlocked, OpenAnswered}
+use Rattle.guarantees.specs.Rules.{First, readRules, writeRules, closeRules, SearchEnds, FirstFree, Names, heldEntry, ivIn, blockIn, sliceAt}
+use Rattle.guarantees.specs.Openings.{Lowest, Unlocked, OpenAnswered}
 use Rattle.guarantees.specs.Effects.{heldAfterAll, storedByAll, Follows}
 use Rattle.guarantees.specs.Arrays.{Arrays, arraysAfterAll, AllDue}
 
@@ -29,8 +29,8 @@ use Rattle.guarantees.specs.Arrays.{Arrays, arraysAfterAll, AllDue}
 pub data ReadAnswered (device maps owners : List ℕ) (s : Session) (i a room : ℕ) : ReadResult → Type 0 where
   mapped : First (readRules (length device) maps owners s i a room) 0 0 → entryOf maps (s .geometry) i a < s .geometry .p
       → ReadAnswered device maps owners s i a room
-      (Filled (ctr (keyOf s i) (part (ivStart (s .geometry) (entryOf maps (s .geometry) i a) (offsetOf (s .geometry) a)) 16 device)
-      (part (blockStart (s .geometry) (entryOf maps (s .geometry) i a) (offsetOf (s .geometry) a)) (s .geometry .b) device)))
+      (Filled (ctr (keyOf s i) (ivIn device (s .geometry) (entryOf maps (s .geometry) i a) a)
+      (blockIn device (s .geometry) (entryOf maps (s .geometry) i a) a)))
   zeros : First (readRules (length device) maps owners s i a room) 0 0 → entryOf maps (s .geometry) i a ≡ unmapped
       → ReadAnswered device maps owners s i a room (Filled (replicate (s .geometry .b) 0))
   refused : (n : ℕ) → (n ≡ 0 → ⊥) → First (readRules (length device) maps owners s i a room) n 0
@@ -39,8 +39,7 @@ pub data ReadAnswered (device maps owners : List ℕ) (s : Session) (i a room : 
 -- A find gives the stored block, and nothing where it is unmapped or a read with a right buffer is refused.
 pub data FindAnswered (device maps owners : List ℕ) (s : Session) (i a : ℕ) : List ℕ → Type 0 where
   mapped : First (readRules (length device) maps owners s i a (s .geometry .b)) 0 0 → entryOf maps (s .geometry) i a < s .geometry .p
-      → FindAnswered device maps owners s i a
-      (part (blockStart (s .geometry) (entryOf maps (s .geometry) i a) (offsetOf (s .geometry) a)) (s .geometry .b) device)
+      → FindAnswered device maps owners s i a (blockIn device (s .geometry) (entryOf maps (s .geometry) i a) a)
   nowhere : First (readRules (length device) maps owners s i a (s .geometry .b)) 0 0 → entryOf maps (s .geometry) i a ≡ unmapped
       → FindAnswered device maps owners s i a []
   refused : (n : ℕ) → (n ≡ 0 → ⊥) → First (readRules (length device) maps owners s i a (s .geometry .b)) n 0
@@ -174,10 +173,10 @@ pub record EqualRuns (k : ℕ) (st st′ : State) (cs : List Call) : Type 0 wher
 -- ---- points 2 and 3, of a served opening
 
 pub record Guarantee (s : List ℕ) (x : Handed) (l : Lent) (k : ℕ) : Type 0 where
-  -- Cell k is the lowest that opens, and the session has the VEKs of the headers below it.
+  -- Cell k is the lowest that opens, and the session's data keys are the VEKs of headers k down to 0.
   pub vmk : List ℕ
   pub lowest : Lowest s (x .key) k vmk
-  pub keys : AllUnlocked s (x .geometry) k vmk (opens s x l .session .keys)
+  pub keys : (i : ℕ) → i ≤ k → Unlocked s (x .geometry) k vmk i (keyOf (opens s x l .session) i)
   -- The opening leaves the tables of the maps on the device.
   pub leaves : Opens x k (mapEntry s x l) (holds s x l)
   -- Point 2.

@@ -1,7 +1,7 @@
 -- Point 1 of the mission: the listed refusals of each call in their listed order, each with its condition (document 01,
 -- "Refused for ..", and the orders below the tables). The conditions are the document's, in their own words and not the
 -- model's. Assumes nothing.
-use Prim.Native.Nat.{ℕ, _+_, _-_, _*_, _≤_, _<_}
+use Prim.Native.Nat.{ℕ, _+_, _*_, _≤_, _<_}
 use mathlib.Core.Path.{_≡_}
 use mathlib.Core.Logic.{_⊎_}
 use mathlib.Core.List.{List, [], _∷_, _++_}
@@ -9,8 +9,9 @@ use lib.ListN.{length, getD}
 use Rattle.model.specs.declared.Geometry.{Geometry}
 use Rattle.model.specs.declared.Session.{Session}
 use Rattle.model.specs.Conditions.{Usable, TablesFit, EntryFits, Enough}
-use Rattle.model.specs.Geometry.{Allowed, deviceLength, mapBlocks}
-use Rattle.model.specs.Session.{Held, geometry, unmapped, entryOf}
+use Rattle.model.specs.Parts.{part}
+use Rattle.model.specs.Geometry.{Allowed, deviceLength, mapBlocks, ivStart, blockStart}
+use Rattle.model.specs.Session.{Held, geometry, unmapped, entryOf, offsetOf}
 
 -- A refusal with the places looked at that it carries, and its condition.
 pub record Rule : Type 1 where
@@ -26,11 +27,20 @@ unfoldable pub First : List Rule → (n c : ℕ) → Type 0
 First [] n c = (n ≡ 0) × (c ≡ 0)
 First (r ∷ rs) n c = (r .holds × (n ≡ r .number) × (c ≡ r .probes)) ⊎ ((r .holds → ⊥) × First rs n c)
 
--- ---- conditions
+-- ---- what a request asks for
 
 -- The entry of block address a of volume i in the held map table.
 abbrev pub heldEntry : Held → (i a : ℕ) → ℕ
 heldEntry h i a = entryOf (h .maps) (geometry h) i a
+
+-- The IV and the ciphertext of the block at address a, in slice ψ of a device.
+abbrev pub ivIn : List ℕ → Geometry → (ψ a : ℕ) → List ℕ
+ivIn device g ψ a = part (ivStart g ψ (offsetOf g a)) 16 device
+
+abbrev pub blockIn : List ℕ → Geometry → (ψ a : ℕ) → List ℕ
+blockIn device g ψ a = part (blockStart g ψ (offsetOf g a)) (g .b) device
+
+-- ---- conditions
 
 -- The slice at a place of a permutation.
 abbrev pub sliceAt : List ℕ → ℕ → ℕ

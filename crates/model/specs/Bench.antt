@@ -12,10 +12,11 @@ use Rattle.model.specs.declared.Geometry.{Geometry}
 use Rattle.model.specs.declared.Session.{Session}
 use Rattle.model.specs.declared.Search.{Search}
 use Rattle.model.specs.declared.Search.the-variants.{Free, Bad, Full}
-use Rattle.model.specs.Geometry.{mapBlocks, headerBlocks, deviceLength, numberAt, fourBytes, cellStart, headerStart, mapStart}
-use Rattle.model.specs.Geometry.{sliceStart, sliceSize, ivStart, blockStart}
-use Rattle.model.specs.Session.{held, unmapped, slot, sliceOf, offsetOf, standing, asked, noKeys}
+use Rattle.model.specs.Geometry.{badGeometry, mapBlocks, headerBlocks, deviceLength, numberAt, fourBytes, cellStart, headerStart, mapStart}
+use Rattle.model.specs.Geometry.{ivStart, blockStart}
+use Rattle.model.specs.Session.{held, unmapped, sliceOf, offsetOf, standing, asked, noKeys}
 use Rattle.model.specs.Write.{firstFree, claimOutcome, WriteResult}
+use Rattle.model.specs.Close.{closeRefusal}
 
 -- A geometry by its three numbers, and stick A of the document.
 abbrev pub sized : (b s p : ℕ) → Geometry
@@ -34,6 +35,17 @@ onDevice g n = standing n (15 * g .p) (g .p) (session g 0) 0
 
 abbrev pub atAddress : Geometry → ℕ → ℕ
 atAddress g a = asked (replicate (15 * g .p) unmapped) (session g 0) 0 a (g .b)
+
+-- The refusal of a geometry at opening, and of an open session by its k.
+abbrev pub sizes : (b s p : ℕ) → ℕ
+sizes b s p = badGeometry 1 (sized b s p) 0
+
+abbrev pub openedTo : ℕ → ℕ
+openedTo k = standing 52224 60 4 (session stickA k) 0
+
+-- The refusal of a close with empty maps and k 1, with a tape of so many bytes.
+abbrev pub closing : (tape position : ℕ) → ℕ
+closing tape position = closeRefusal 52224 (held (replicate 60 unmapped) (replicate 4 0) position (session stickA 1)) tape
 
 -- The answer of a write: its number, 0 where served, and the places looked at.
 abbrev pub shown : WriteResult → List ℕ
@@ -84,16 +96,23 @@ cases =
     ∷ row (sbox 0x00 ∷ sbox 0x01 ∷ times 0x57 0x83 ∷ []) (0x63 ∷ 0x7c ∷ 0xc1 ∷ [])
     -- Counter of 16 bytes FF, plus one: 16 bytes 00.
     ∷ row (increment (replicate 16 0xFF)) (replicate 16 0x00)
-    -- Beyond the starred cases. The mark is four bytes FF, both ways.
-    ∷ row (numberAt 0 (replicate 4 0xFF) ∷ fourBytes unmapped) (4294967295 ∷ replicate 4 0xFF)
+    -- Beyond the starred cases. S 64 is allowed at B 1,024, 65 is 1; 256 and 257 at B 4,096; P 0 and 4,097 are 1, and so are S 0, B 2,048.
+    ∷ row (sizes 1024 64 1 ∷ sizes 1024 65 1 ∷ sizes 4096 256 4096 ∷ sizes 4096 257 4096 ∷ []) (0 ∷ 1 ∷ 0 ∷ 1 ∷ [])
+    ∷ row (sizes 1024 1 0 ∷ sizes 1024 1 4097 ∷ sizes 1024 0 1 ∷ sizes 2048 1 1 ∷ []) (1 ∷ 1 ∷ 1 ∷ 1 ∷ [])
+    -- k 14 is allowed, 15 is 20.
+    ∷ row (openedTo 14 ∷ openedTo 15 ∷ []) (0 ∷ 20 ∷ [])
+    -- A, k = 1: a close with 31 tape bytes is 21, with 32 served; the position past the end is 21 too.
+    ∷ row (closing 31 0 ∷ closing 32 0 ∷ closing 32 33 ∷ []) (21 ∷ 0 ∷ 21 ∷ [])
+    -- Numbers are four bytes, most significant first, and the mark is four bytes FF.
+    ∷ row (numberAt 1 (9 ∷ 1 ∷ 2 ∷ 3 ∷ 4 ∷ 9 ∷ []) ∷ fourBytes 0x01020304) (0x01020304 ∷ 1 ∷ 2 ∷ 3 ∷ 4 ∷ [])
+    ∷ row (fourBytes unmapped) (replicate 4 0xFF)
     -- A: header 14 begins at device block 29, its map at block 30. P 253 (m 2): header 1 at block 4, its map at block 5.
     ∷ row (headerStart stickA 14 ∷ mapStart stickA 14 ∷ []) ((29 * 1024) ∷ (30 * 1024) ∷ [])
     ∷ row (headerStart (sized 1024 4 253) 1 ∷ mapStart (sized 1024 4 253) 1 ∷ []) ((4 * 1024) ∷ (5 * 1024) ∷ [])
-    -- A: slice 2 is device blocks 41 to 45; the IV of its block 3 is bytes 48 to 63 of block 41, its blocks 0 and 1 are 42 and 43.
-    ∷ row (sliceStart stickA 2 ∷ sliceSize stickA ∷ ivStart stickA 2 3 ∷ []) ((41 * 1024) ∷ (5 * 1024) ∷ (41 * 1024 + 48) ∷ [])
-    ∷ row (blockStart stickA 2 0 ∷ blockStart stickA 2 1 ∷ []) ((42 * 1024) ∷ (43 * 1024) ∷ [])
-    -- A: address 13 is offset 1 of logical slice 3; entry 1 of volume 2 is at place 9 of the map table.
-    ∷ row (sliceOf stickA 13 ∷ offsetOf stickA 13 ∷ slot stickA 2 1 ∷ []) (3 ∷ 1 ∷ 9 ∷ [])
+    -- A: the IV of block 3 of slice 2 is bytes 48 to 63 of device block 41, its blocks 0 and 1 are device blocks 42 and 43.
+    ∷ row (ivStart stickA 2 3 ∷ blockStart stickA 2 0 ∷ blockStart stickA 2 1 ∷ []) ((41 * 1024 + 48) ∷ (42 * 1024) ∷ (43 * 1024) ∷ [])
+    -- A: address 13 is offset 1 of logical slice 3.
+    ∷ row (sliceOf stickA 13 ∷ offsetOf stickA 13 ∷ []) (3 ∷ 1 ∷ [])
     ∷ []
 
 -- The claim: in every row the definitions give what the document says.

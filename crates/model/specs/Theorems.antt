@@ -15,15 +15,45 @@ use Rattle.model.specs.declared.Change.{Change}
 use Rattle.model.specs.declared.OpenAnswer.the-variants as open-answer
 use Rattle.model.specs.declared.WriteAnswer.the-variants as write-answer
 use Rattle.model.specs.Parts.{choose, part, joined, patched}
-use Rattle.model.specs.Geometry.{Allowed, perBlock, numberAt, fourBytes}
-use Rattle.model.specs.Session.{Held, held, Outcome, unmapped, noKeys}
+use Rattle.model.specs.Geometry.{Allowed, perBlock, mapBlocks, headerBlocks, deviceLength, numberAt, fourBytes, cellStart, cellOf}
+use Rattle.model.specs.Geometry.{headerStart, headerOf, mapStart, sliceStart, sliceSize, ivStart, blockStart}
+use Rattle.model.specs.Session.{Held, held, Outcome, slot, sliceOf, offsetOf, unmapped, noKeys}
 use Rattle.model.specs.Opening.{At, openCell, openHeader, vekOf, vmkBelow, firstCell, storedEntry, allKeys, OpenResult, OpenTo, NotOpened, OpenOutcome}
-use Rattle.model.specs.Read.{Filled, Refused}
+use Rattle.model.specs.Read.{deciphered, Filled, Refused}
 use Rattle.model.specs.Write.{WriteResult, claimedBytes, claimed}
 use Rattle.model.specs.Close.{CloseResult, mapBlock}
 use Rattle.model.specs.Answers.{openResult, writeResult, closeResult, readNumber, readBuffer, OpenLeaves, Leaves}
 
--- ---- what is sealed opens (document 01, "Master block", "Volume header")
+-- ---- where things stand (document 01, "Geometry of a stick")
+
+-- End to end: each thing begins where the one before it ends, and the device ends with the last slice.
+pub record LayoutLaws : Type 0 where
+  -- A map block is its IV and four bytes for each entry; m of them hold P entries, and one fewer does not.
+  pub map-block : (g : Geometry) → Allowed g → 16 + 4 * perBlock g ≡ g .b
+  pub map-blocks : (g : Geometry) → Allowed g → (g .p ≤ mapBlocks g * perBlock g) × (mapBlocks g * perBlock g < g .p + perBlock g)
+  -- The master block: 16 salt bytes, then cells of 60.
+  pub first-cell : cellStart 0 ≡ 16
+  pub next-cell : (i : ℕ) → cellStart (i + 1) ≡ cellStart i + 60
+  -- Volume headers from block 1 on: one block, then m map blocks.
+  pub first-header : (g : Geometry) → headerStart g 0 ≡ g .b
+  pub first-map : (g : Geometry) (i : ℕ) → mapStart g i ≡ headerStart g i + g .b
+  pub next-header : (g : Geometry) (i : ℕ) → headerStart g (i + 1) ≡ mapStart g i + g .b * mapBlocks g
+  -- Slices behind 15 headers, which are H blocks with the master block: an IV block, then S data blocks.
+  pub headers-end : (g : Geometry) → headerStart g 15 ≡ g .b * headerBlocks g
+  pub first-slice : (g : Geometry) → sliceStart g 0 ≡ headerStart g 15
+  pub iv : (g : Geometry) (ψ j : ℕ) → ivStart g ψ j ≡ sliceStart g ψ + 16 * j
+  pub first-block : (g : Geometry) (ψ : ℕ) → blockStart g ψ 0 ≡ sliceStart g ψ + g .b
+  pub next-block : (g : Geometry) (ψ j : ℕ) → blockStart g ψ (j + 1) ≡ blockStart g ψ j + g .b
+  pub next-slice : (g : Geometry) (ψ : ℕ) → sliceStart g (ψ + 1) ≡ blockStart g ψ (g .s)
+  pub slice-size : (g : Geometry) (ψ : ℕ) → sliceStart g ψ + sliceSize g ≡ sliceStart g (ψ + 1)
+  pub device-end : (g : Geometry) → deviceLength g ≡ sliceStart g (g .p)
+  -- The map table row by row, and the blocks of a volume slice by slice.
+  pub first-slot : (g : Geometry) → slot g 0 0 ≡ 0
+  pub next-slot : (g : Geometry) (i σ : ℕ) → slot g i (σ + 1) ≡ slot g i σ + 1
+  pub next-row : (g : Geometry) (i : ℕ) → slot g (i + 1) 0 ≡ slot g i (g .p)
+  pub address : (g : Geometry) (σ j : ℕ) → j < g .s → (sliceOf g (σ * g .s + j) ≡ σ) × (offsetOf g (σ * g .s + j) ≡ j)
+
+-- ---- what is sealed opens (document 01, "Master block", "Volume header", "Slice")
 
 -- The 72 bytes of a header's text: the VEK, the VMK of the volume below, P, S.
 pub record HeaderText (text vek below : List ℕ) (p s : ℕ) : Type 0 where
@@ -32,21 +62,26 @@ pub record HeaderText (text vek below : List ℕ) (p s : ℕ) : Type 0 where
   pub third : numberAt 64 text ≡ p
   pub fourth : numberAt 68 text ≡ s
 
--- Cells, headers and map blocks that are laid out as the document says open to what was sealed in them.
+-- What stands on a device as the document lays it out opens, or deciphers, to what was put there.
 pub record SealingLaws : Type 0 where
-  -- A key cell: IV, then ciphertext and tag of the VMK under the caller's key, with the byte i.
-  pub cell : (key iv vmk : List ℕ) (i : ℕ) → length iv ≡ 12 → length vmk ≡ 32
-      → openCell key i (iv ++ (gcmText key iv vmk ++ gcmTag key iv (i ∷ []) (gcmText key iv vmk))) ≡ Text vmk
-  -- A header: IV, then ciphertext and tag of its text under the VMK, with the byte 16 + i; the rest is ignored.
-  pub header : (vmk iv text rest : List ℕ) (i : ℕ) → length iv ≡ 12 → length text ≡ 72
-      → openHeader vmk i (iv ++ (gcmText vmk iv text ++ (gcmTag vmk iv ((16 + i) ∷ []) (gcmText vmk iv text) ++ rest))) ≡ Text text
+  -- Key cell i: IV, then ciphertext and tag of the VMK under the caller's key, with the byte i.
+  pub cell : (device key iv vmk : List ℕ) (i : ℕ) → length iv ≡ 12 → length vmk ≡ 32
+      → part (cellStart i) 60 device ≡ iv ++ (gcmText key iv vmk ++ gcmTag key iv (i ∷ []) (gcmText key iv vmk))
+      → openCell key i (cellOf device i) ≡ Text vmk
+  -- Volume header i: IV, then ciphertext and tag of its text under the VMK, with the byte 16 + i.
+  pub header : (g : Geometry) → Allowed g → (device vmk iv text : List ℕ) (i : ℕ) → length iv ≡ 12 → length text ≡ 72
+      → part (headerStart g i) 100 device ≡ iv ++ (gcmText vmk iv text ++ gcmTag vmk iv ((16 + i) ∷ []) (gcmText vmk iv text))
+      → openHeader vmk i (headerOf g device i) ≡ Text text
   pub header-text : (vek below : List ℕ) (p s : ℕ) → length vek ≡ 32 → length below ≡ 32 → p < 256 ^ 4 → s < 256 ^ 4
       → HeaderText (vek ++ (below ++ (fourBytes p ++ fourBytes s))) vek below p s
-  -- Map block t of a header: IV, then its entries of four bytes in counter mode under the VEK.
-  pub entry : (g : Geometry) → Allowed g → (vek iv header : List ℕ) (entries : ℕ → ℕ) (t e : ℕ)
-      → length iv ≡ 16 → e < perBlock g → entries e < 256 ^ 4
-      → part (g .b * (1 + t)) (g .b) header ≡ iv ++ ctr vek iv (joined (perBlock g) (λ n. fourBytes (entries n)))
-      → storedEntry g vek header (t * perBlock g + e) ≡ entries e
+  -- Map block t of header i: IV, then its entries of four bytes in counter mode under the VEK.
+  pub entry : (g : Geometry) → Allowed g → (device vek iv : List ℕ) (entries : ℕ → ℕ) (i t e : ℕ)
+      → t < mapBlocks g → e < perBlock g → length iv ≡ 16 → entries e < 256 ^ 4
+      → part (mapStart g i + g .b * t) (g .b) device ≡ iv ++ ctr vek iv (joined (perBlock g) (λ n. fourBytes (entries n)))
+      → storedEntry g vek (headerOf g device i) (t * perBlock g + e) ≡ entries e
+  -- Data block j of slice ψ: its IV in the IV block, and the block in counter mode under the VEK.
+  pub block : (g : Geometry) (device vek iv text : List ℕ) (ψ j : ℕ) → ψ < g .p
+      → part (ivStart g ψ j) 16 device ≡ iv → part (blockStart g ψ j) (g .b) device ≡ ctr vek iv text → deciphered g vek ψ j device ≡ text
 
 -- ---- what contracts read off an answer
 

@@ -1,6 +1,6 @@
 // The types that the engine's calls speak of. What each call answers and leaves stands in specs/, in the order of
 // document 01; nothing here runs.
-ghost use Rattle.model.specs.Theorems.{SealingLaws, AnswerLaws, ModelLaws};
+ghost use Rattle.model.specs.Theorems.{LayoutLaws, SealingLaws, AnswerLaws, ModelLaws};
 ghost use Rattle.model.specs.Bench.{cases, AllHold};
 use refusals::Answer;
 use refusals::Refusal;
@@ -70,8 +70,12 @@ pub enum Search {
     Full,
 }
 
-// The laws of the definitions: nothing runs, and the check has to prove them. What is sealed opens; contracts drop nothing
-// of an answer; what calls find, write and leave.
+// The laws of the definitions: nothing runs, and the check has to prove them. Things stand end to end; what is sealed opens;
+// contracts drop nothing of an answer; what calls find, write and leave.
+pub fn layout_laws()
+    ensures { λ r. ⌜ LayoutLaws ⌝ }
+{}
+
 pub fn sealing_laws()
     ensures { λ r. ⌜ SealingLaws ⌝ }
 {}

@@ -5,17 +5,18 @@ use Rattle.field.specs.Field.{xtimes, timesBits, times, squared, squares, inver
 use Rattle.field.specs.Sbox.{bit, affineBit, affine, sbox}
 use Rattle.block.specs.Bytes.{numberAfter, bigEndian}
 use Rattle.ctr.specs.CounterMode.{increment}
-use Rattle.model.specs.Geometry.{badGeometry, mapBlocks, headerBlocks, deviceLength, mapStart, sliceStart, sliceSize, ivStart, blockStart}
+use Rattle.model.specs.Geometry.{badGeometry, mapBlocks, headerBlocks, deviceLength, mapStart, sliceStart, ivStart, blockStart}
 use Rattle.model.specs.Session.{standing, asked, short}
 use Rattle.model.specs.Write.{search, firstFree}
+use Rattle.model.specs.Close.{anyBad, closeRefusal}
 use Rattle.model.specs.Bench.{cases}
 use Rattle.model.proofs.bench_cases.Statement.{statement}
 use Rattle.model.proofs.bench_cases.Tie as tie
 
 returns : tie.Need-returns
-unfolding cases refuse badGeometry mapBlocks headerBlocks deviceLength mapStart sliceStart sliceSize ivStart blockStart standing asked short search firstFree
+unfolding cases refuse badGeometry mapBlocks headerBlocks deviceLength mapStart sliceStart ivStart blockStart standing asked short search firstFree anyBad closeRefusal
     xtimes timesBits times squared squares inverse bit affineBit affine sbox numberAfter bigEndian increment
-returns c = (refl, (refl, (refl, (refl, (refl, (refl, (refl, (refl, (refl, (refl, (refl, (refl, (refl, (refl, (refl, (refl, (refl, tt)))))))))))))))))
+returns c = (refl, (refl, (refl, (refl, (refl, (refl, (refl, (refl, (refl, (refl, (refl, (refl, (refl, (refl, (refl, (refl, (refl, (refl, (refl, (refl, (refl, tt)))))))))))))))))))))
 
 pub bench-cases-spec : {M : Type 1} → statement M
 bench-cases-spec = tie.close (tie.spec returns)
