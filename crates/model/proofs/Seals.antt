@@ -2,7 +2,7 @@
 use Prim.Native.Nat.{ℕ, _+_, _-_, _*_, _^_, _≤_, _<_}
 use mathlib.Core.Path.{_≡_, sym, ap, ap₂, _∙_}
 use mathlib.Core.List.{List, [], _∷_, _++_}
-use native.Mathlib.Nat.{add-zero, mul-comm, mul-le-mul-left}
+use native.Mathlib.Nat.{add-zero, add-assoc, mul-comm, mul-le-mul-left}
 use native.Mathlib.Omega.{arith}
 use lib.ListN.{length}
 use lib.Arith.{digits-div, digits-mod}
@@ -10,61 +10,65 @@ use Rattle.block.specs.Bytes.{number}
 use Rattle.block.proofs.Bytes.{bigEndian-length}
 use Rattle.ctr.specs.CounterMode.{ctr}
 use Rattle.ctr.proofs.Stream.{ctr-twice, ctr-length}
-use Rattle.gcm.specs.Gcm.{Text, gcmText, gcmTag, gcmOpen}
-use Rattle.gcm.proofs.Gctr.{text-length, tag-length}
-use Rattle.gcm.proofs.Same.{open-sealed}
+use Rattle.gcm.specs.Gcm.{Text, gcmOpen}
+use Rattle.gcm.proofs.Gctr.{text-twice}
+use Rattle.gcm.proofs.Same.{open-sealed, open-right}
 use Rattle.model.specs.declared.Geometry.{Geometry}
 use Rattle.model.specs.Parts.{part, joined}
 use Rattle.model.specs.Geometry.{Allowed, perBlock, mapBlocks, numberAt, fourBytes, cellStart, cellOf, headerStart, headerOf, mapStart}
 use Rattle.model.specs.Opening.{openCell, openHeader, storedEntry}
-use Rattle.model.specs.Theorems.{HeaderText}
+use Rattle.model.specs.Theorems.{HeaderText, Sealed}
 use Rattle.model.proofs.Bounds.{b-bounds, entries-fill}
 use Rattle.model.proofs.Parts.{part-right, part-first, part-next, part-last, part-part, joined-length, joined-part}
 use Rattle.model.proofs.MapBlocks.{fourBytes-number}
 
 -- ---- what GCM sealed
 
--- IV, ciphertext and tag end to end.
-module _ (key iv text : List ℕ) (n : ℕ) (aad : List ℕ) (e : length iv ≡ 12) (f : length text ≡ n) where
-  abbrev c : List ℕ
-  c = gcmText key iv text
+-- A window on a device from a place on that is wide enough for IV, ciphertext and tag.
+module _ (key : List ℕ) (i at n w : ℕ) (device text : List ℕ) (wide : 28 + n ≤ w) where
+  abbrev window : List ℕ
+  window = part at w device
 
-  abbrev tag : List ℕ
-  tag = gcmTag key iv aad c
+  abbrev aad : List ℕ
+  aad = i ∷ []
 
-  abbrev sealed : List ℕ
-  sealed = iv ++ (c ++ tag)
+  -- The parts of the window by their places on the device.
+  iv-is : part 0 12 window ≡ part at 12 device
+  iv-is = part-part device at w 0 12 (omega arith) ∙ ap (λ (y : ℕ). part y 12 device) (add-zero at)
 
-  c-length : length c ≡ n
-  c-length = text-length key iv text ∙ f
+  cipher-is : part 12 n window ≡ part (at + 12) n device
+  cipher-is = part-part device at w 12 n (omega arith)
 
-  -- What has its parts opens.
-  sealed-opens : (s : List ℕ) → part 0 12 s ≡ part 0 12 sealed → part 12 n s ≡ part 12 n sealed → part (12 + n) 16 s ≡ part (12 + n) 16 sealed
-      → gcmOpen key (part 0 12 s) aad (part 12 n s) (part (12 + n) 16 s) ≡ Text text
-  sealed-opens s p q r =
-      ap₂ (λ (x y : List ℕ). gcmOpen key x aad y (part (12 + n) 16 s)) (p ∙ part-first iv (c ++ tag) 12 e) (q ∙ part-next iv c tag 12 n e c-length)
-      ∙ ap (gcmOpen key iv aad c) (r ∙ part-right iv (c ++ tag) 12 e n 16 ∙ part-last c tag n 16 c-length (tag-length key iv aad c))
-      ∙ open-sealed key iv aad text
+  tag-is : part (12 + n) 16 window ≡ part (at + 12 + n) 16 device
+  tag-is = part-part device at w (12 + n) 16 (omega arith) ∙ ap (λ (y : ℕ). part y 16 device) (sym (add-assoc at 12 n))
 
-pub cell-opens : (device key iv vmk : List ℕ) (i : ℕ) → length iv ≡ 12 → length vmk ≡ 32
-    → part (cellStart i) 60 device ≡ iv ++ (gcmText key iv vmk ++ gcmTag key iv (i ∷ []) (gcmText key iv vmk))
-    → openCell key i (cellOf device i) ≡ Text vmk
-cell-opens device key iv vmk i e f is =
-    sealed-opens key iv vmk 32 (i ∷ []) e f (cellOf device i) (ap (part 0 12) is) (ap (part 12 32) is) (ap (part 44 16) is)
+  abbrev Opens : Type 0
+  Opens = gcmOpen key (part 0 12 window) aad (part 12 n window) (part (12 + n) 16 window) ≡ Text text
 
-pub header-opens : (g : Geometry) → Allowed g → (device vmk iv text : List ℕ) (i : ℕ) → length iv ≡ 12 → length text ≡ 72
-    → part (headerStart g i) 100 device ≡ iv ++ (gcmText vmk iv text ++ gcmTag vmk iv ((16 + i) ∷ []) (gcmText vmk iv text))
-    → openHeader vmk i (headerOf g device i) ≡ Text text
-header-opens g ok device vmk iv text i e f is =
-    sealed-opens vmk iv text 72 ((16 + i) ∷ []) e f (headerOf g device i) (within 0 12 (omega arith)) (within 12 72 (omega arith))
-    (within 84 16 (omega arith))
-  where
-    within : (x n : ℕ) → x + n ≤ 100 → part x n (headerOf g device i)
-        ≡ part x n (iv ++ (gcmText vmk iv text ++ gcmTag vmk iv ((16 + i) ∷ []) (gcmText vmk iv text)))
-    within x n l =
-        part-part device (headerStart g i) (g .b * (1 + mapBlocks g)) x n (omega (arith, b-bounds g ok))
-        ∙ sym (part-part device (headerStart g i) 100 x n l)
-        ∙ ap (part x n) is
+  sealed-opens : Sealed key i at n device text → Opens
+  sealed-opens q =
+      rw (iv-is, cipher-is, tag-is, q .tag, q .cipher) (open-sealed key (part at 12 device) aad text)
+
+  opens-sealed : Opens → Sealed key i at n device text
+  opens-sealed e =
+      let q = open-right _ _ _ _ _ text (rw (iv-is, cipher-is, tag-is) at e) in
+      record { cipher = sym (rw (q .0) (text-twice key (part at 12 device) (part (at + 12) n device))); tag = q .1 }
+
+pub cell-opens : (device key vmk : List ℕ) (i : ℕ) → Sealed key i (cellStart i) 32 device vmk → openCell key i (cellOf device i) ≡ Text vmk
+cell-opens device key vmk i = sealed-opens key i (cellStart i) 32 60 device vmk (omega arith)
+
+pub cell-sealed : (device key vmk : List ℕ) (i : ℕ) → openCell key i (cellOf device i) ≡ Text vmk → Sealed key i (cellStart i) 32 device vmk
+cell-sealed device key vmk i = opens-sealed key i (cellStart i) 32 60 device vmk (omega arith)
+
+module _ (g : Geometry) (ok : Allowed g) (device vmk text : List ℕ) (i : ℕ) where
+  header-wide : 28 + 72 ≤ g .b * (1 + mapBlocks g)
+  header-wide = omega (arith, b-bounds g ok)
+
+  pub header-opens : Sealed vmk (16 + i) (headerStart g i) 72 device text → openHeader vmk i (headerOf g device i) ≡ Text text
+  header-opens = sealed-opens vmk (16 + i) (headerStart g i) 72 (g .b * (1 + mapBlocks g)) device text header-wide
+
+  pub header-sealed : openHeader vmk i (headerOf g device i) ≡ Text text → Sealed vmk (16 + i) (headerStart g i) 72 device text
+  header-sealed = opens-sealed vmk (16 + i) (headerStart g i) 72 (g .b * (1 + mapBlocks g)) device text header-wide
 
 pub header-text : (vek below : List ℕ) (p s : ℕ) → length vek ≡ 32 → length below ≡ 32 → p < 256 ^ 4 → s < 256 ^ 4
     → HeaderText (vek ++ (below ++ (fourBytes p ++ fourBytes s))) vek below p s

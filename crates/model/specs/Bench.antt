@@ -16,7 +16,7 @@ use Rattle.model.specs.Geometry.{badGeometry, mapBlocks, headerBlocks, d
 use Rattle.model.specs.Geometry.{ivStart, blockStart}
 use Rattle.model.specs.Session.{held, unmapped, sliceOf, offsetOf, standing, asked, noKeys}
 use Rattle.model.specs.Write.{firstFree, claimOutcome, WriteResult}
-use Rattle.model.specs.Close.{closeRefusal}
+use Rattle.model.specs.Close.{closeRefusal, closedSession}
 
 -- A geometry by its three numbers, and stick A of the document.
 abbrev pub sized : (b s p : ℕ) → Geometry
@@ -36,12 +36,12 @@ onDevice g n = standing n (15 * g .p) (g .p) (session g 0) 0
 abbrev pub atAddress : Geometry → ℕ → ℕ
 atAddress g a = asked (replicate (15 * g .p) unmapped) (session g 0) 0 a (g .b)
 
--- The refusal of a geometry at opening, and of an open session by its k.
+-- The refusal of a geometry at opening, and of a session on the device and the tables of stick A.
 abbrev pub sizes : (b s p : ℕ) → ℕ
 sizes b s p = badGeometry 1 (sized b s p) 0
 
-abbrev pub openedTo : ℕ → ℕ
-openedTo k = standing 52224 60 4 (session stickA k) 0
+abbrev pub inSession : Session → ℕ
+inSession s = standing 52224 60 4 s 0
 
 -- The refusal of a close with empty maps and k 1, with a tape of so many bytes.
 abbrev pub closing : (tape position : ℕ) → ℕ
@@ -99,8 +99,9 @@ cases =
     -- Beyond the starred cases. S 64 is allowed at B 1,024, 65 is 1; 256 and 257 at B 4,096; P 0 and 4,097 are 1, and so are S 0, B 2,048.
     ∷ row (sizes 1024 64 1 ∷ sizes 1024 65 1 ∷ sizes 4096 256 4096 ∷ sizes 4096 257 4096 ∷ []) (0 ∷ 1 ∷ 0 ∷ 1 ∷ [])
     ∷ row (sizes 1024 1 0 ∷ sizes 1024 1 4097 ∷ sizes 1024 0 1 ∷ sizes 2048 1 1 ∷ []) (1 ∷ 1 ∷ 1 ∷ 1 ∷ [])
-    -- k 14 is allowed, 15 is 20.
-    ∷ row (openedTo 14 ∷ openedTo 15 ∷ []) (0 ∷ 20 ∷ [])
+    -- k 14 is allowed, 15 is 20; so is a geometry that is not allowed, and a closed session.
+    ∷ row (inSession (session stickA 14) ∷ inSession (session stickA 15) ∷ []) (0 ∷ 20 ∷ [])
+    ∷ row (inSession (session (sized 1024 65 4) 0) ∷ inSession (closedSession (session stickA 0)) ∷ []) (20 ∷ 20 ∷ [])
     -- A, k = 1: a close with 31 tape bytes is 21, with 32 served; the position past the end is 21 too.
     ∷ row (closing 31 0 ∷ closing 32 0 ∷ closing 32 33 ∷ []) (21 ∷ 0 ∷ 21 ∷ [])
     -- Numbers are four bytes, most significant first, and the mark is four bytes FF.

@@ -17,7 +17,7 @@ use Rattle.model.specs.declared.WriteAnswer.the-variants as write-answer
 use Rattle.model.specs.Parts.{choose, part, joined, patched}
 use Rattle.model.specs.Geometry.{Allowed, perBlock, mapBlocks, headerBlocks, deviceLength, numberAt, fourBytes, cellStart, cellOf}
 use Rattle.model.specs.Geometry.{headerStart, headerOf, mapStart, sliceStart, sliceSize, ivStart, blockStart}
-use Rattle.model.specs.Session.{Held, held, Outcome, slot, sliceOf, offsetOf, unmapped, noKeys}
+use Rattle.model.specs.Session.{Held, held, Outcome, keyOf, slot, sliceOf, offsetOf, unmapped, noKeys}
 use Rattle.model.specs.Opening.{At, openCell, openHeader, vekOf, vmkBelow, firstCell, storedEntry, allKeys, OpenResult, OpenTo, NotOpened, OpenOutcome}
 use Rattle.model.specs.Read.{deciphered, Filled, Refused}
 use Rattle.model.specs.Write.{WriteResult, claimedBytes, claimed}
@@ -47,6 +47,9 @@ pub record LayoutLaws : Type 0 where
   pub next-slice : (g : Geometry) (ψ : ℕ) → sliceStart g (ψ + 1) ≡ blockStart g ψ (g .s)
   pub slice-size : (g : Geometry) (ψ : ℕ) → sliceStart g ψ + sliceSize g ≡ sliceStart g (ψ + 1)
   pub device-end : (g : Geometry) → deviceLength g ≡ sliceStart g (g .p)
+  -- The data keys of a session, 32 bytes each from volume 0 up.
+  pub key : (s : Session) (lower own upper : List ℕ) (i : ℕ) → s .keys ≡ lower ++ (own ++ upper) → length lower ≡ 32 * i → length own ≡ 32
+      → keyOf s i ≡ own
   -- The map table row by row, and the blocks of a volume slice by slice.
   pub first-slot : (g : Geometry) → slot g 0 0 ≡ 0
   pub next-slot : (g : Geometry) (i σ : ℕ) → slot g i (σ + 1) ≡ slot g i σ + 1
@@ -62,16 +65,22 @@ pub record HeaderText (text vek below : List ℕ) (p s : ℕ) : Type 0 where
   pub third : numberAt 64 text ≡ p
   pub fourth : numberAt 68 text ≡ s
 
--- What stands on a device as the document lays it out opens, or deciphers, to what was put there.
+-- The part of a device from a place on opens to a text: its IV, its ciphertext of n bytes and its tag are those of this text under
+-- the key, with the byte i as associated data.
+pub record Sealed (key : List ℕ) (i at n : ℕ) (device text : List ℕ) : Type 0 where
+  pub cipher : part (at + 12) n device ≡ gcmText key (part at 12 device) text
+  pub tag : part (at + 12 + n) 16 device ≡ gcmTag key (part at 12 device) (i ∷ []) (part (at + 12) n device)
+
+-- What stands on a device as the document lays it out opens, or deciphers, to what was put there, and nothing else opens.
 pub record SealingLaws : Type 0 where
-  -- Key cell i: IV, then ciphertext and tag of the VMK under the caller's key, with the byte i.
-  pub cell : (device key iv vmk : List ℕ) (i : ℕ) → length iv ≡ 12 → length vmk ≡ 32
-      → part (cellStart i) 60 device ≡ iv ++ (gcmText key iv vmk ++ gcmTag key iv (i ∷ []) (gcmText key iv vmk))
-      → openCell key i (cellOf device i) ≡ Text vmk
-  -- Volume header i: IV, then ciphertext and tag of its text under the VMK, with the byte 16 + i.
-  pub header : (g : Geometry) → Allowed g → (device vmk iv text : List ℕ) (i : ℕ) → length iv ≡ 12 → length text ≡ 72
-      → part (headerStart g i) 100 device ≡ iv ++ (gcmText vmk iv text ++ gcmTag vmk iv ((16 + i) ∷ []) (gcmText vmk iv text))
+  -- Key cell i: the VMK under the caller's key, with the byte i.
+  pub cell : (device key vmk : List ℕ) (i : ℕ) → Sealed key i (cellStart i) 32 device vmk → openCell key i (cellOf device i) ≡ Text vmk
+  pub cell-alone : (device key vmk : List ℕ) (i : ℕ) → openCell key i (cellOf device i) ≡ Text vmk → Sealed key i (cellStart i) 32 device vmk
+  -- Volume header i: its text of 72 bytes under the VMK, with the byte 16 + i; the rest of its first block is ignored.
+  pub header : (g : Geometry) → Allowed g → (device vmk text : List ℕ) (i : ℕ) → Sealed vmk (16 + i) (headerStart g i) 72 device text
       → openHeader vmk i (headerOf g device i) ≡ Text text
+  pub header-alone : (g : Geometry) → Allowed g → (device vmk text : List ℕ) (i : ℕ) → openHeader vmk i (headerOf g device i) ≡ Text text
+      → Sealed vmk (16 + i) (headerStart g i) 72 device text
   pub header-text : (vek below : List ℕ) (p s : ℕ) → length vek ≡ 32 → length below ≡ 32 → p < 256 ^ 4 → s < 256 ^ 4
       → HeaderText (vek ++ (below ++ (fourBytes p ++ fourBytes s))) vek below p s
   -- Map block t of header i: IV, then its entries of four bytes in counter mode under the VEK.

@@ -1,10 +1,13 @@
 -- `model::layout_laws` meets its contract. Assumes nothing.
 use Prim.Native.Nat.{_+_, _-_, _*_, _≤_, _<_}
+use mathlib.Core.Path.{ap, _∙_}
 use native.Mathlib.Omega.{arith}
 use native.Mathlib.Nat.{div-add-mod', mod-lt}
 use lib.Arith.{digits-div, digits-mod}
 use Rattle.model.specs.declared.Geometry.{Geometry}
 use Rattle.model.specs.Geometry.{Allowed, perBlock, mapBlocks, headerBlocks, deviceLength, mapStart, sliceStart, sliceSize, ivStart, blockStart}
+use Rattle.model.specs.Parts.{part}
+use Rattle.model.proofs.Parts.{part-next}
 use Rattle.model.proofs.Bounds.{b-bounds, entries-fill, perBlock-least}
 use Rattle.model.proofs.layout_laws.Statement.{statement}
 use Rattle.model.proofs.layout_laws.Tie as tie
@@ -36,6 +39,7 @@ returns c =
       next-slice = λ g ψ. omega arith;
       slice-size = λ g ψ. omega arith;
       device-end = λ g. omega arith;
+      key = λ s lower own upper i e l m. ap (part (32 * i) 32) e ∙ part-next lower own upper (32 * i) 32 l m;
       first-slot = λ g. omega arith;
       next-slot = λ g i σ. omega arith;
       next-row = λ g i. omega arith;

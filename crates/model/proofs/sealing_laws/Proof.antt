@@ -3,7 +3,7 @@ use mathlib.Core.Path.{ap₂, _∙_}
 use Rattle.ctr.specs.CounterMode.{ctr}
 use Rattle.ctr.proofs.Stream.{ctr-twice}
 use Rattle.model.proofs.Blocks.{deciphered-mapped}
-use Rattle.model.proofs.Seals.{cell-opens, header-opens, header-text, map-entry}
+use Rattle.model.proofs.Seals.{cell-opens, cell-sealed, header-opens, header-sealed, header-text, map-entry}
 use Rattle.model.proofs.sealing_laws.Statement.{statement}
 use Rattle.model.proofs.sealing_laws.Tie as tie
 
@@ -11,7 +11,9 @@ returns : tie.Need-returns
 returns c =
     record {
       cell = cell-opens;
+      cell-alone = cell-sealed;
       header = header-opens;
+      header-alone = header-sealed;
       header-text = header-text;
       entry = map-entry;
       block = λ g device vek iv text ψ j l p q. deciphered-mapped g vek ψ j device l ∙ ap₂ (ctr vek) p q ∙ ctr-twice vek iv text;
