@@ -1,13 +1,12 @@
 -- What is decided on a write, by the tests that the code makes. Assumes nothing.
-use Prim.Native.Nat.{ℕ, suc, _+_, _≤_, _<_}
+use Prim.Native.Nat.{ℕ, _+_, _≤_, _<_}
 use mathlib.Core.Path.{_≡_, refl, _∙_}
-use mathlib.Core.Bool.{Bool, true, false}
-use mathlib.Core.List.{List, [], _∷_}
+use mathlib.Core.Bool.{true, false}
+use mathlib.Core.List.{List}
 use native.Mathlib.Nat.{sub-zero}
 use native.Mathlib.Omega.{arith}
-use lib.Dec.{ltb, eqb}
-use lib.ListN.{length, drop, getD}
-use borrow.Author.Tests.{lt-ltb, le-ltb, ltb-true}
+use lib.ListN.{length}
+use borrow.Author.Tests.{lt-ltb, le-ltb}
 use Rattle.refusals.specs.Numbers.{refusalNumber}
 use Rattle.refusals.specs.declared.Refusal.{Refusal}
 use Rattle.refusals.specs.declared.Refusal.the-variants.{TapeShort, BadPermutation, NoFreeSlice}
@@ -17,51 +16,13 @@ use Rattle.model.specs.declared.Session.{Session}
 use Rattle.model.specs.declared.Search.{Search}
 use Rattle.model.specs.declared.Search.the-variants.{Free, Bad, Full}
 use Rattle.model.specs.Session.{Held, held, sliceOf, offsetOf, entryOf, short}
-use Rattle.model.specs.Write.{seen, search, firstFree, rewriteOutcome, claimOutcome, writeRefusal, writeModel}
+use Rattle.model.specs.Write.{firstFree, rewriteOutcome, claimOutcome, writeRefusal, writeModel}
 use Rattle.model.proofs.Requests.{Writable, short-false}
 use Rattle.model.proofs.Order.{unless-refused}
+use Rattle.model.proofs.Searches.{firstFree-free, firstFree-bad}
 use Rattle.deciding.specs.declared.Decision.{Decision}
 use Rattle.deciding.specs.declared.Decision.the-variants.{Refused, Rewrite, Claim}
 use Rattle.deciding.specs.Decided.{Decided}
-
--- ---- the search of a claim
-
-module _ (owners : List ℕ) (p : ℕ) where
-  search-free : (place : ℕ) (slices : List ℕ) (ψ q : ℕ) → search owners p place slices ≡ Free ψ q → (ψ < p) × (q < place + length slices)
-  unfolding search
-  search-free place [] ψ q e = let z : _≡_ {A = ℕ} 0 1 = cc in absurd (omega arith)
-  search-free place (φ ∷ slices) ψ q e = go (ltb φ p) refl (eqb (getD owners φ 0) 0) (search-free (suc place) slices ψ q) e
-    where
-      go : (x : Bool) → ltb φ p ≡ x → (y : Bool)
-          → (search owners p (suc place) slices ≡ Free ψ q → (ψ < p) × (q < suc place + length slices))
-          → seen x y φ place (search owners p (suc place) slices) ≡ Free ψ q → (ψ < p) × (q < place + suc (length slices))
-      go false l y later f = let z : _≡_ {A = ℕ} 0 1 = cc in absurd (omega arith)
-      go true l true later f =
-          let same : φ ≡ ψ = cc in
-          let here : place ≡ q = cc in
-          (omega (arith, ltb-true φ p l), omega arith)
-      go true l false later f = (later f .0, omega (arith, later f .1))
-
-  search-bad : (place : ℕ) (slices : List ℕ) (q : ℕ) → search owners p place slices ≡ Bad q → q < place + length slices
-  unfolding search
-  search-bad place [] q e = let z : _≡_ {A = ℕ} 0 1 = cc in absurd (omega arith)
-  search-bad place (φ ∷ slices) q e = go (ltb φ p) (eqb (getD owners φ 0) 0) (search-bad (suc place) slices q) e
-    where
-      go : (x y : Bool) → (search owners p (suc place) slices ≡ Bad q → q < suc place + length slices)
-          → seen x y φ place (search owners p (suc place) slices) ≡ Bad q → q < place + suc (length slices)
-      go false y later f = let here : place ≡ q = cc in omega arith
-      go true true later f = let z : _≡_ {A = ℕ} 0 1 = cc in absurd (omega arith)
-      go true false later f = omega (arith, later f)
-
-module _ (owners : List ℕ) (p start : ℕ) (perm : List ℕ) where
-  -- A slice that is found is one, and a place that is found is one of the permutation's.
-  pub firstFree-free : (ψ q : ℕ) → firstFree owners p start perm ≡ Free ψ q → (ψ < p) × (q < start + length (drop start perm))
-  unfolding firstFree
-  firstFree-free ψ q e = search-free owners p start (drop start perm) ψ q e
-
-  pub firstFree-bad : (q : ℕ) → firstFree owners p start perm ≡ Bad q → q < start + length (drop start perm)
-  unfolding firstFree
-  firstFree-bad q e = search-bad owners p start (drop start perm) q e
 
 -- ---- the decision
 
@@ -104,14 +65,11 @@ module _ (device : ℕ) (maps owners : List ℕ) (position : ℕ) (s : Session) 
     -- ---- a claim
 
     -- A place that the search ends at is one of the permutation's.
-    place-below : (n : ℕ) → n < 0 + length (drop 0 perm) → n < g .p
-    place-below n l = omega (arith, w .places)
-
     pub bad-place : (place : ℕ) → firstFree owners (g .p) 0 perm ≡ Bad place → place < g .p
-    bad-place place q = place-below place (firstFree-bad owners (g .p) 0 perm place q)
+    bad-place place q = omega (arith, firstFree-bad owners (g .p) perm place q, w .places)
 
     pub free-place : (ψ place : ℕ) → firstFree owners (g .p) 0 perm ≡ Free ψ place → place < g .p
-    free-place ψ place q = place-below place (firstFree-free owners (g .p) 0 perm ψ place q .1)
+    free-place ψ place q = omega (arith, firstFree-free owners (g .p) perm ψ place q .1, w .places)
 
     module _ (x : ℕ) (e : x ≡ entryOf maps g i a) (past : g .p ≤ x) (found : Search) (f : firstFree owners (g .p) 0 perm ≡ found) where
       unmapped-searched : (text bytes : List ℕ) → length text ≡ len
@@ -134,7 +92,7 @@ module _ (device : ℕ) (maps owners : List ℕ) (position : ℕ) (s : Session) 
           record {
             outcome = unmapped-searched text bytes t ∙ rw (q, b, z) refl;
             none = rw t (w .none);
-            slice = firstFree-free owners (g .p) 0 perm ψ place (f ∙ q) .0;
+            slice = firstFree-free owners (g .p) perm ψ place (f ∙ q) .0;
             enough = rw b (short-false _ _ _ z);
           },
           free-place ψ place (f ∙ q),

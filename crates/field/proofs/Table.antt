@@ -1,23 +1,18 @@
 -- A rule that holds at each entry of a table, by one test over the whole of it. Assumes nothing.
 use mathlib.Core.Path.{_≡_, subst}
-use mathlib.Core.Bool.{Bool, true, false}
+use mathlib.Core.Bool.{Bool, true, false, _&&_}
 use mathlib.Core.List.{List, [], _∷_}
 use Prim.Native.Nat.{ℕ, zero, suc, _+_, _<_}
 use native.Mathlib.Omega.{arith}
 use lib.Dec.{T}
 use lib.ListN.{length, getD}
 
--- Both tests pass.
-abbrev pub and : Bool → Bool → Bool
-and true b = b
-and false b = false
-
 -- The test passes at each entry and its place, the first being place n.
 abbrev pub all : (ℕ → ℕ → Bool) → ℕ → List ℕ → Bool
 all test n [] = true
-all test n (x ∷ xs) = and (test n x) (all test (suc n) xs)
+all test n (x ∷ xs) = test n x && all test (suc n) xs
 
-and-parts : (a b : Bool) → T (and a b) → T a × T b
+and-parts : (a b : Bool) → T (a && b) → T a × T b
 and-parts true b t = (tt, t)
 and-parts false b t = absurd t
 

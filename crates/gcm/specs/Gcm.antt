@@ -1,7 +1,7 @@
 -- SP 800-38D: GCM under AES-256, with an IV of 96 bits and a tag of 128. A block stands as the number of its bits.
 -- Assumes nothing.
 use Prim.Native.Nat.{ℕ, zero, suc, _+_, _*_, _/_, _%_, _^_}
-use mathlib.Core.Bool.{Bool, true, false}
+use mathlib.Core.Bool.{Bool, true, false, _&&_}
 use mathlib.Core.List.{List, [], _∷_, _++_}
 use lib.Dec.{eqb}
 use lib.ListN.{length, getD}
@@ -52,17 +52,12 @@ gcmTag key iv aad c = tagUnder (keyExpansion key) iv aad c
 unfoldable pub gcmText : List ℕ → List ℕ → List ℕ → List ℕ
 gcmText key iv text = gctr (keyExpansion key) (inc32 (J0 iv)) text
 
--- The second test where the first holds, else false.
-abbrev pub both : Bool → Bool → Bool
-both true b = b
-both false b = false
-
 -- Whether two lists are the same.
 unfoldable pub same : List ℕ → List ℕ → Bool
 same [] [] = true
 same [] (y ∷ ys) = false
 same (x ∷ xs) [] = false
-same (x ∷ xs) (y ∷ ys) = both (eqb x y) (same xs ys)
+same (x ∷ xs) (y ∷ ys) = eqb x y && same xs ys
 
 -- What opening gives (7.2, steps 6 and 7): the text where the tag is right, else none.
 pub data Opened : Type 0 where

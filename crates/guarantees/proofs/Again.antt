@@ -17,8 +17,7 @@ use Rattle.model.specs.Read.{deciphered}
 use Rattle.model.specs.Close.{CloseResult, mapPatches, closeNeed, closed, closeModel}
 use Rattle.guarantees.specs.Runs.{State, Closing, Closes, outcome, next}
 use Rattle.model.specs.Geometry.{Allowed}
-use Rattle.model.specs.Conditions.{TablesFit, EntryFits, Enough}
-use Rattle.guarantees.specs.Rules.{Names}
+use Rattle.model.specs.Conditions.{TablesFit, EntryFits, Enough, Names}
 use Rattle.guarantees.specs.Arrays.{Arrays}
 use Rattle.guarantees.specs.Points.{Handed, Lent, opens, begin, Reopens}
 use Rattle.model.proofs.Parts.{part-part}

@@ -8,22 +8,24 @@ use native.Mathlib.Omega.{arith}
 use lib.ListN.{length}
 use Rattle.model.specs.declared.Geometry.{Geometry}
 use Rattle.model.specs.declared.Session.{Session}
-use Rattle.model.specs.Geometry.{Allowed, deviceLength, headerOf}
+use Rattle.model.specs.Geometry.{Allowed, deviceLength, cellOf, headerOf}
 use Rattle.model.specs.Session.{Held, Outcome, geometry, entryOf, unmapped, noKeys}
 use Rattle.model.specs.Opening.{Cell, Chain, mapEntries, Loaded, openRefusal, OpenOutcome, allKeys, withTables, withKeys, withCell, openModel}
 use Rattle.model.specs.Read.{ReadResult, deciphered, readRefusal, readModel, findModel}
 use Rattle.model.specs.Write.{WriteResult, writeModel}
 use Rattle.model.specs.Close.{CloseResult, closeRefusal, closeModel}
 use Rattle.guarantees.specs.Rules.{Rule, First, SearchEnds, heldEntry, openRules}
-use Rattle.guarantees.specs.Openings.{Lowest, AllUnlocked, OpenAnswered, handed-wrong, no-cell, header-tag, header-geometry, bad-entry, slice-twice}
+use Rattle.guarantees.specs.Openings.{Lowest, AllUnlocked, OpenAnswered, handed-wrong, no-cell, header-tag}
+use Rattle.guarantees.specs.Openings.{header-geometry, bad-entry, slice-twice}
 use Rattle.guarantees.specs.Points.{ReadAnswered, FindAnswered, WriteAnswered, CloseAnswered}
 use Rattle.model.proofs.Requests.{readRefusal-none}
+use Rattle.model.proofs.Cells.{CellsEnd, lowest, nowhere, firstCell-ends}
 use Rattle.guarantees.proofs.Reflects.{ltb-reflects, choose-reflects}
 use Rattle.guarantees.proofs.Chains.{Leads, here, later, none, leads-first, leads-append, none-leads}
 use Rattle.guarantees.proofs.Orders.{earlyRules, open-leads, read-leads, write-leads, close-leads}
 use Rattle.guarantees.proofs.Search.{search-ends, free-not-bad, free-not-full, full-not-bad}
 use Rattle.guarantees.proofs.Cases.{unless-cases, Writable, writable-passes, write-cases}
-use Rattle.guarantees.proofs.Unlocks.{CellsEnd, lowest, nowhere, firstCell-ends, ChainEnds, whole, wrong-tag, misfit, chain-ends, allKeys-unlocked}
+use Rattle.guarantees.proofs.Unlocks.{ChainEnds, whole, wrong-tag, misfit, chain-ends, allKeys-unlocked}
 use Rattle.guarantees.proofs.Tables.{LoadEnds, loaded, bad, twice, holds-sound, load-ends}
 use Rattle.guarantees.proofs.Opened.{openRefusal-none}
 
@@ -42,7 +44,8 @@ read-answered device maps owners s i a room =
     let Answered = ReadAnswered device maps owners s i a room in
     unless-cases Answered (readRefusal (length device) maps owners s i a room) _ _
     (λ r e. ReadAnswered.refused (suc r) (omega arith) (leads-first (rw e at q)))
-    (λ e. choose-reflects (λ (bytes : List ℕ). Answered (ReadResult.Filled bytes)) _ _ (ltb-reflects (entryOf maps (s .geometry) i a) (s .geometry .p))
+    (λ e. choose-reflects (λ (bytes : List ℕ). Answered (ReadResult.Filled bytes)) _ _
+    (ltb-reflects (entryOf maps (s .geometry) i a) (s .geometry .p))
     (ReadAnswered.mapped (leads-first (rw e at q)))
     (λ out. ReadAnswered.zeros (leads-first (rw e at q)) (entry-unmapped device maps owners s i a room e out)))
 
@@ -131,9 +134,10 @@ module _ (device : List ℕ) (g : Geometry) (key maps owners perm : List ℕ) wh
       withKeys-answered (wrong-tag i vmk reached e) = header-tag first k top low i vmk reached e
       withKeys-answered (misfit i vmk text reached e f) = header-geometry first k top low i vmk text reached e f
 
-    withCell-answered : {c : Cell} → CellsEnd device key c → Opens (withCell g header c)
+    withCell-answered : {c : Cell} → CellsEnd key (cellOf device) c → Opens (withCell g header c)
     unfolding withCell noKeys
-    withCell-answered (lowest k top low) = withKeys-answered k top low (chain-ends device g k top ok long (low .top))
+    withCell-answered (lowest k top low) =
+        withKeys-answered k top (record { top = low .0; opens = low .1; below = low .2 }) (chain-ends device g k top ok long (low .0))
     withCell-answered (nowhere shut) = no-cell first shut
 
   pub open-answered : Opens (openModel device g key maps owners perm)
@@ -142,5 +146,6 @@ module _ (device : List ℕ) (g : Geometry) (key maps owners perm : List ℕ) wh
       let q = open-leads g (length device) (length key) (length maps) (length owners) perm in
       unless-cases Opens (openRefusal g (length device) (length key) (length maps) (length owners) perm) _ _
       (λ r e. handed-wrong (suc r) (omega arith) (leads-first (rw e at q)))
-      (λ e. let taken = openRefusal-none device (record { geometry = g; key = key; perm = perm; position = 0 }) (record { maps = maps; owners = owners }) e in
-      withCell-answered (leads-first (rw e at q)) (taken .good) (taken .long) (firstCell-ends device key))
+      (λ e. let taken =
+      openRefusal-none device (record { geometry = g; key = key; perm = perm; position = 0 }) (record { maps = maps; owners = owners }) e in
+      withCell-answered (leads-first (rw e at q)) (taken .good) (taken .long) (firstCell-ends key (cellOf device)))

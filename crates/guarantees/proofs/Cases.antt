@@ -11,13 +11,13 @@ use Rattle.model.specs.Session.{Held, Outcome, geometry, sliceOf, offsetOf, unm
 use Rattle.model.specs.Read.{readRefusal}
 use Rattle.model.specs.Write.{firstFree, startPlace, probesTo, WriteResult, rewritten, claimed, claimOutcome, writeRefusal, writeModel}
 use Rattle.model.specs.Close.{closeNeed, closeRefusal, CloseResult, closed, closeModel}
-use Rattle.model.specs.Conditions.{Enough}
+use Rattle.model.specs.Conditions.{Enough, sliceAt, AllHeld, FirstFree, FirstBad}
 use Rattle.model.proofs.Requests as requests
-use Rattle.guarantees.specs.Rules.{sliceAt, AllHeld, FirstFree, FirstBad, heldEntry, askedRules}
+use Rattle.guarantees.specs.Rules.{heldEntry, askedRules}
 use Rattle.guarantees.proofs.Reflects.{ltb-reflects, choose-reflects, choose-refutes}
 use Rattle.guarantees.proofs.Chains.{None}
 use Rattle.guarantees.proofs.Orders.{short-refutes, earlyRules}
-use Rattle.guarantees.proofs.Search.{Finds, firstFree-finds}
+use Rattle.model.proofs.Searches.{Finds, firstFree-finds}
 
 -- The two ends of a chain of refusals.
 pub unless-cases : {A : Type 0} (P : A → Type 0) (n : ℕ) (refusal : ℕ → A) (served : A)

@@ -10,17 +10,16 @@ use lib.ListN.{length, getD}
 use lib.Arith.{digits-div, digits-mod, digits-lt}
 use Rattle.gcm.specs.Gcm as gcm
 use Rattle.model.specs.declared.Geometry.{Geometry}
-use Rattle.model.specs.Parts.{part}
 use Rattle.model.specs.Geometry.{deviceLength, cellOf, headerOf, Allowed}
-use Rattle.model.specs.Session.{Held, held, keyOf, unmapped, unless}
+use Rattle.model.specs.Session.{Held, held, keyIn, keyOf, unmapped, unless}
 use Rattle.model.specs.Opening.{Cell, At, NoCell, openCell, orNext, firstCell, openHeader, vekOf, vmkBelow, Chain, Keys, Broken, link, chain}
 use Rattle.model.specs.Opening.{storedEntry, mapEntries, Loaded, Tables, Spoilt, loadMaps, openRefusal, OpenTo, OpenOutcome}
 use Rattle.model.specs.Opening.{untouched, allKeys, withTables, withKeys, withCell, openModel}
-use Rattle.model.specs.Conditions.{TablesFit}
+use Rattle.model.specs.Conditions.{TablesFit, Names}
 use Rattle.model.proofs.Tests.{equal}
+use Rattle.model.proofs.Cells.{firstCell-lowest}
 use Rattle.model.proofs.Keys.{allKeys-length, allKeys-above}
 use Rattle.model.proofs.Requests as requests
-use Rattle.guarantees.specs.Rules.{Names}
 use Rattle.guarantees.specs.Openings.{Lowest}
 use Rattle.guarantees.specs.Points.{Handed, Lent, opens, Maps, Opens}
 use Rattle.guarantees.proofs.Reflects.{refutes-passed}
@@ -29,7 +28,7 @@ use Rattle.guarantees.proofs.Orders.{missing-refutes, open-leads}
 use Rattle.guarantees.proofs.Sound.{Sound, tableEntry}
 use Rattle.guarantees.proofs.Blocks.{same-slot}
 use Rattle.guarantees.proofs.Cases.{Stands}
-use Rattle.guarantees.proofs.Unlocks.{firstCell-lowest, chain-unlocked}
+use Rattle.guarantees.proofs.Unlocks.{chain-unlocked}
 use Rattle.guarantees.proofs.Tables.{Holds, load-holds, load-same}
 
 -- ---- the lowest cell that opens: no cell above it counts
@@ -162,7 +161,8 @@ module _ (device : List ℕ) (x : Handed) (l : Lent) (k : ℕ) where
 
   module _ (s : Served) where
     pub served-cell : Lowest device (x .key) k (s .vmk)
-    served-cell = firstCell-lowest device (x .key) k (s .vmk) (s .lowest)
+    served-cell =
+        let low = firstCell-lowest (x .key) (cellOf device) k (s .vmk) (s .lowest) in record { top = low .0; opens = low .1; below = low .2 }
 
     pub served-low : k < 15
     served-low = served-cell .top
@@ -262,7 +262,7 @@ served-same s t x l l′ k ok cells headers a = (
         sym (chain-same g₀ (headerOf g₀ s) (headerOf g₀ t) k (a .vmk) [] (λ i m vmk. ap (openHeader vmk i) (headers i m))) ∙ a .headers;
     tables =
         sym (load-same (g₀ .p) _ _ ((k + 1) * g₀ .p) 0 _ _
-        (λ m lo hi. ap (λ (d : List ℕ). storedEntry g₀ (part (32 * (m / g₀ .p)) 32 (allKeys (a .keys) k)) d (m % g₀ .p)) (headers (m / g₀ .p) (row m hi))))
+        (λ m lo hi. ap (λ (d : List ℕ). storedEntry g₀ (keyIn (allKeys (a .keys) k) (m / g₀ .p)) d (m % g₀ .p)) (headers (m / g₀ .p) (row m hi))))
         ∙ a .tables;
   },
   refl,

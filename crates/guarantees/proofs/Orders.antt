@@ -17,9 +17,9 @@ use Rattle.model.specs.Opening.{member, missing, openRefusal}
 use Rattle.model.specs.Read.{readRefusal}
 use Rattle.model.specs.Write.{writeRefusal}
 use Rattle.model.specs.Close.{anyBad, closeRefusal}
-use Rattle.model.specs.Conditions.{Usable, TablesFit, EntryFits, Enough}
+use Rattle.model.specs.Conditions.{Usable, TablesFit, EntryFits, Enough, sliceAt, Names}
 use Rattle.model.proofs.Requests.{short-false, short-true}
-use Rattle.guarantees.specs.Rules.{Rule, rule, sliceAt, Names}
+use Rattle.guarantees.specs.Rules.{Rule, rule}
 use Rattle.guarantees.specs.Rules.{standingRules, askedRules, openRules, readRules, closeRules}
 use Rattle.guarantees.proofs.Reflects.{Reflects, fails, ltb-reflects, leb-reflects, eqb-reflects, bool-reflects, reflects-map, or-reflects}
 use Rattle.guarantees.proofs.Reflects.{Refutes, refuted, not-refutes, ltb-refutes, Below, below-zero-refutes, below-suc-refutes}
@@ -81,7 +81,8 @@ anyBad-refutes g maps (suc n) =
 
 -- ---- the orders
 
-usable-guards : (s : Session) → Guards (λ rest. refuse (not (s .opened)) 20 (badGeometry 20 (s .geometry) (refuse (ltb 14 (s .k)) 20 rest))) 20 (Usable s)
+usable-guards : (s : Session)
+    → Guards (λ rest. refuse (not (s .opened)) 20 (badGeometry 20 (s .geometry) (refuse (ltb 14 (s .k)) 20 rest))) 20 (Usable s)
 usable-guards s =
     guards-map (λ p. record { opened = p .0; allowed = p .1 .0; top = p .1 .1 }) (λ u. (u .opened, (u .allowed, u .top)))
     (guards-both (refuse-guards 20 (not-refutes (bool-reflects (s .opened))))

@@ -53,12 +53,14 @@ module _ (g : Geometry) where
     pub iv-block : Apart (ivStart g ψ j) 16 (blockStart g φ n) (g .b)
     unfolding ivStart blockStart
     iv-block =
-        apart ψ φ (16 * j) 16 (g .b * (1 + n)) (g .b) (iv-within-slice g ok j hj) (block-within g ok n hn) (λ e. inl (omega (arith, iv-within g ok j hj)))
+        apart ψ φ (16 * j) 16 (g .b * (1 + n)) (g .b) (iv-within-slice g ok j hj) (block-within g ok n hn)
+        (λ e. inl (omega (arith, iv-within g ok j hj)))
 
     pub block-iv : Apart (blockStart g ψ j) (g .b) (ivStart g φ n) 16
     unfolding ivStart blockStart
     block-iv =
-        apart ψ φ (g .b * (1 + j)) (g .b) (16 * n) 16 (block-within g ok j hj) (iv-within-slice g ok n hn) (λ e. inr (omega (arith, iv-within g ok n hn)))
+        apart ψ φ (g .b * (1 + j)) (g .b) (16 * n) 16 (block-within g ok j hj) (iv-within-slice g ok n hn)
+        (λ e. inr (omega (arith, iv-within g ok n hn)))
 
     pub block-block : (ψ ≡ φ → j ≡ n → ⊥) → Apart (blockStart g ψ j) (g .b) (blockStart g φ n) (g .b)
     unfolding blockStart

@@ -104,7 +104,9 @@ module _ (first : State) (device : List ℕ) (h : Held) (i a : ℕ) (text perm t
         record {
           stands =
               record { usable = w .stands .usable; long = patched-length (o .patches) device ∙ w .stands .long; tables = w .stands .tables };
-          sound = record { whole = op .sound .whole; apart = record { once = op .sound .apart .once; owner = op .sound .apart .owner; free = op .sound .apart .free } };
+          sound =
+              let a = op .sound .apart in
+              record { whole = op .sound .whole; apart = record { once = a .once; owner = a .owner; free = a .free } };
           session = op .session;
           header = λ x n fits.
               overlay-before _ _ _ x n (omega (arith, slice-first g (heldEntry h i a)))

@@ -16,7 +16,7 @@ use Rattle.model.specs.Read.{blockOf, ReadResult, readModel, findModel}
 use Rattle.model.specs.Write.{WriteResult, rewritten, claimed, claimedBytes, writeModel}
 use Rattle.model.specs.Close.{mapPatches, closeModel}
 use Rattle.guarantees.specs.Runs.{State, Call, Reading, Finding, Writing, Closing, Event, Reads, Finds, Writes, Closes, asEvent, outcome, next}
-use Rattle.guarantees.specs.Runs.{final, events, positions, left, allPlaces, Within}
+use Rattle.guarantees.specs.Runs.{final, events, positions, left, writtenByAll, Within}
 use Rattle.model.specs.Conditions.{Enough}
 use Rattle.guarantees.specs.Rules.{heldEntry}
 use Rattle.guarantees.specs.Points.{EqualRuns}
@@ -197,7 +197,7 @@ same-stores (c ∷ cs) st st′ al =
 
 -- And so hold equal bytes where they wrote.
 run-written : (cs : List Call) (st st′ : State) → Alike st st′
-    → (p : ℕ) → Within p (allPlaces (geometry (st .held)) (st .held .session .k) (events st cs))
+    → (p : ℕ) → Within p (writtenByAll (geometry (st .held)) (st .held .session .k) (events st cs))
     → getD (final st cs .device) p 0 ≡ getD (final st′ cs .device) p 0
 run-written cs st st′ al p w =
     ap (λ (x : List ℕ). getD x p 0) (run-patched cs st)

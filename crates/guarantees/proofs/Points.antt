@@ -14,10 +14,11 @@ use Rattle.model.specs.Session.{Held, Outcome, geometry, keyOf, sliceOf, offset
 use Rattle.model.specs.Write.{WriteResult, writeModel}
 use Rattle.model.specs.Opening.{OpenOutcome, storedEntry}
 use Rattle.model.specs.Read.{deciphered}
-use Rattle.guarantees.specs.Runs.{State, Call, outcome, final, events, allPlaces, Within}
+use Rattle.guarantees.specs.Runs.{State, Call, outcome, final, events, writtenByAll, Within}
 use Rattle.guarantees.specs.Arrays.{Arrays}
 use Rattle.guarantees.specs.Openings.{AllUnlocked}
-use Rattle.guarantees.specs.Points.{Handed, Lent, opens, holds, begin, mapEntry, firstArrays, Opens, Run, Agree, EqualRuns, Points23, NoSliceTwice}
+use Rattle.guarantees.specs.Points.{Handed, Lent, opens, holds, begin, mapEntry, firstArrays, Opens, Run, Agree, EqualRuns}
+use Rattle.guarantees.specs.Points.{Points23, NoSliceTwice}
 use Rattle.model.proofs.Bounds.{sliceOf-lt}
 use Rattle.guarantees.proofs.Sound.{tableEntry}
 use Rattle.guarantees.proofs.Opened.{holding, Served, served, served-is, openedBy, served-sound, served-stands, served-opens, served-entry}
@@ -87,7 +88,7 @@ module _ (s : List ℕ) (x : Handed) (l : Lent) (k : ℕ) (sv : Served s x l k) 
     where
       KeptOutside : Geometry → ℕ → Type 0
       KeptOutside g′ n =
-          (p : ℕ) → (Within p (allPlaces g′ n (events (begin s x l) cs)) → ⊥) → getD (final (begin s x l) cs .device) p 0 ≡ getD s p 0
+          (p : ℕ) → (Within p (writtenByAll g′ n (events (begin s x l) cs)) → ⊥) → getD (final (begin s x l) cs .device) p 0 ≡ getD s p 0
 
 -- ---- two devices
 

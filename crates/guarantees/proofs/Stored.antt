@@ -12,7 +12,7 @@ use Rattle.model.specs.Session.{Held, Outcome, idle, geometry, keyOf, offsetOf,
 use Rattle.model.specs.Write.{WriteResult, claimedBytes}
 use Rattle.model.specs.Close.{CloseResult}
 use Rattle.guarantees.specs.Runs.{State, Call, Reading, Finding, Writing, Closing, Event, Writes, Closes, asEvent, outcome, next, final}
-use Rattle.guarantees.specs.Runs.{events, Range, places, allPlaces, Within}
+use Rattle.guarantees.specs.Runs.{events, Range, writtenBy, writtenByAll, Within}
 use Rattle.guarantees.specs.Rules.{heldEntry}
 use Rattle.guarantees.specs.Effects.{heldAfter, heldAfterAll, storedBy, storedByAll, Follows}
 use Rattle.model.proofs.Parts.{part-length, patched-++}
@@ -25,17 +25,17 @@ use Rattle.guarantees.proofs.MapBlocks.{mapPatches-ranges, mapPatches-s
 
 -- Its patches are its written places, what it stores and leaves follows from the event, and geometry and k stay.
 pub record Step (h : Held) (o : Outcome Event) : Type 0 where
-  ranges : rangesOf (o .patches) ≡ places (geometry h) (h .session .k) (o .answer)
+  ranges : rangesOf (o .patches) ≡ writtenBy (geometry h) (h .session .k) (o .answer)
   pub follows : Follows h o
   geo : geometry (o .held) ≡ geometry h
   top : o .held .session .k ≡ h .session .k
 
 -- A call that changes nothing.
-none : {h : Held} {e : Event} → [] ≡ storedBy h e → h ≡ heldAfter h e → [] ≡ places (geometry h) (h .session .k) e → Step h (idle h e)
+none : {h : Held} {e : Event} → [] ≡ storedBy h e → h ≡ heldAfter h e → [] ≡ writtenBy (geometry h) (h .session .k) e → Step h (idle h e)
 none s k r = record { ranges = r; follows = record { stored = s; held = k }; geo = refl; top = refl }
 
 pub step : (st : State) (c : Call) → Step (st .held) (outcome st c)
-unfolding outcome places heldAfter storedBy claimedBytes noKeys
+unfolding outcome writtenBy heldAfter storedBy claimedBytes noKeys
 step st (Reading i a room) = none refl refl refl
 step st (Finding i a) = none refl refl refl
 step st (Writing i a text perm tape) =
@@ -104,16 +104,16 @@ pub run-stored : (cs : List Call) (st : State) → final st cs .device ≡ patch
 run-stored cs st = run-patched cs st ∙ ap (λ (ps : List Patch). patched ps (st .device)) (run-stores cs st)
 
 abbrev placesOf : State → List Event → List Range
-placesOf st es = allPlaces (geometry (st .held)) (st .held .session .k) es
+placesOf st es = writtenByAll (geometry (st .held)) (st .held .session .k) es
 
 pub run-ranges : (cs : List Call) (st : State) → rangesOf (stores st cs) ≡ placesOf st (events st cs)
-unfolding stores events allPlaces
+unfolding stores events writtenByAll
 run-ranges [] st = refl
 run-ranges (c ∷ cs) st =
     let s = step st c in
     ranges-++ (outcome st c .patches) (stores (next st c) cs)
     ∙ ap₂ (λ (a b : List Range). a ++ b) (s .ranges)
-    (run-ranges cs (next st c) ∙ ap₂ (λ (g : Geometry) (k : ℕ). allPlaces g k (events (next st c) cs)) (s .geo) (s .top))
+    (run-ranges cs (next st c) ∙ ap₂ (λ (g : Geometry) (k : ℕ). writtenByAll g k (events (next st c) cs)) (s .geo) (s .top))
 
 pub run-kept : (cs : List Call) (st : State) (p : ℕ) → (Within p (placesOf st (events st cs)) → ⊥)
     → getD (final st cs .device) p 0 ≡ getD (st .device) p 0

@@ -10,7 +10,7 @@ use lib.Seq.{getD-set-same, getD-set-other}
 use Rattle.model.specs.Session.{unmapped}
 use Rattle.model.specs.Opening.{Loaded, Tables, Spoilt, settle, load}
 use Rattle.model.proofs.Tests.{equal}
-use Rattle.guarantees.specs.Openings.{Sound}
+use Rattle.guarantees.specs.Openings.{GoodEntries}
 use Rattle.guarantees.proofs.Reflects.{ltb-reflects, eqb-reflects, choose-reflects}
 
 -- Tables that hold the first n entries; the map table has 15 × P places.
@@ -92,7 +92,7 @@ module _ (p : ℕ) (e : ℕ → ℕ) (n : ℕ) (maps owners : List ℕ) (holds :
         }
 
 -- Tables of the first n entries: each is the mark, or a slice that no entry before it names.
-pub holds-sound : (p : ℕ) (e : ℕ → ℕ) (n : ℕ) (maps owners : List ℕ) → n ≤ 15 * p → Holds p e n maps owners → Sound e p n
+pub holds-sound : (p : ℕ) (e : ℕ → ℕ) (n : ℕ) (maps owners : List ℕ) → n ≤ 15 * p → Holds p e n maps owners → GoodEntries e p n
 holds-sound p e n maps owners fits holds m hm =
     let has = holds .has m hm in
     ⊎-elim (λ u. inl (sym has ∙ u))
@@ -108,8 +108,8 @@ module _ (p : ℕ) (e : ℕ → ℕ) (N : ℕ) where
   -- What the first N entries come to.
   pub data LoadEnds : Loaded → Type 0 where
     loaded : (maps owners : List ℕ) → Holds p e N maps owners → LoadEnds (Tables maps owners)
-    bad : (n : ℕ) → n < N → Sound e p n → (e n ≡ unmapped → ⊥) → p ≤ e n → LoadEnds (Spoilt 9)
-    twice : (n : ℕ) → n < N → Sound e p n → e n < p → (m : ℕ) → m < n → e m ≡ e n → LoadEnds (Spoilt 10)
+    bad : (n : ℕ) → n < N → GoodEntries e p n → (e n ≡ unmapped → ⊥) → p ≤ e n → LoadEnds (Spoilt 9)
+    twice : (n : ℕ) → n < N → GoodEntries e p n → e n < p → (m : ℕ) → m < n → e m ≡ e n → LoadEnds (Spoilt 10)
 
   module _ (small : p ≤ unmapped) (room : N ≤ 15 * p) where
     -- From entry n on, into tables that hold those before it.
@@ -126,7 +126,7 @@ module _ (p : ℕ) (e : ℕ → ℕ) (N : ℕ) where
         twice n (omega arith) before slice (r .0) (r .1) (sym (holds .has (r .0) (r .1)) ∙ r .2)))
         (λ out. bad n (omega arith) before other (omega arith)))
       where
-        before : Sound e p n
+        before : GoodEntries e p n
         before = holds-sound p e n maps owners (omega arith) holds
 
     pub load-ends : LoadEnds (load p e N 0 (replicate (15 * p) unmapped) (replicate p 0))
@@ -144,8 +144,8 @@ module _ (p : ℕ) (e : ℕ → ℕ) (N : ℕ) where
         go (bad n l s u b) q = let z : _≡_ {A = ℕ} 0 1 = cc in absurd (omega arith)
         go (twice n l s b m′ l′ d) q = let z : _≡_ {A = ℕ} 0 1 = cc in absurd (omega arith)
 
-    -- Sound entries can be loaded.
-    pub load-served : Sound e p N → (m : List ℕ) × (o : List ℕ) × (load p e N 0 (replicate (15 * p) unmapped) (replicate p 0) ≡ Tables m o)
+    -- Good entries can be loaded.
+    pub load-served : GoodEntries e p N → (m : List ℕ) × (o : List ℕ) × (load p e N 0 (replicate (15 * p) unmapped) (replicate p 0) ≡ Tables m o)
     load-served sound = go load-ends
       where
         go : {l : Loaded} → LoadEnds l → (m : List ℕ) × (o : List ℕ) × (l ≡ Tables m o)

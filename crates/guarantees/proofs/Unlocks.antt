@@ -1,10 +1,9 @@
--- What the cells and the headers of a device come to at an opening. Assumes nothing.
+-- What the headers of a device come to at an opening. Assumes nothing.
 use Prim.Native.Nat.{ℕ, zero, suc, _+_, _-_, _*_, _≤_, _<_}
-use mathlib.Core.Path.{_≡_, refl, sym, subst}
-use mathlib.Core.Logic.{⊎-elim}
+use mathlib.Core.Path.{_≡_, refl}
 use mathlib.Core.Bool.{not, _||_}
 use mathlib.Core.List.{List, [], _++_}
-use native.Mathlib.Nat.{add-zero, zero-add, eq-or-lt-of-le, le-of-suc-le-suc}
+use native.Mathlib.Nat.{add-zero, zero-add}
 use native.Mathlib.Omega.{arith}
 use lib.ListN.{length, replicate, length-append}
 use lib.Seq.{take-at}
@@ -13,50 +12,13 @@ use Rattle.gcm.specs.Gcm.{Opened, Text, WrongTag, gcmOpen}
 use Rattle.gcm.proofs.Gctr.{text-length}
 use Rattle.gcm.proofs.Same.{open-right}
 use Rattle.model.specs.declared.Geometry.{Geometry}
-use Rattle.model.specs.Parts.{part}
-use Rattle.model.specs.Geometry.{Allowed, mapBlocks, deviceLength, numberAt, cellOf, headerStart, headerOf}
-use Rattle.model.specs.Opening.{Cell, At, NoCell, openCell, orNext, firstCell, openHeader, vekOf, vmkBelow, Chain, Keys, Broken, link, chain, allKeys}
-use Rattle.guarantees.specs.Openings.{Lowest, HeaderFits, Reached, from-above, Unlocked, AllUnlocked}
+use Rattle.model.specs.Geometry.{Allowed, mapBlocks, deviceLength, numberAt, headerStart, headerOf}
+use Rattle.model.specs.Session.{keyIn}
+use Rattle.model.specs.Opening.{openHeader, vekOf, vmkBelow, Chain, Keys, Broken, link, chain, allKeys}
+use Rattle.guarantees.specs.Openings.{HeaderFits, Reached, from-above, Unlocked, AllUnlocked}
 use Rattle.model.proofs.Parts.{part-length, part-left, part-right}
 use Rattle.model.proofs.Bounds.{b-bounds, header-fits}
 use Rattle.guarantees.proofs.Reflects.{eqb-reflects, Refutes, not-refutes, or-refutes, choose-refutes}
-
--- ---- the cells
-
-module _ (device key : List ℕ) where
-  -- Cell i does not open.
-  abbrev Shut : ℕ → Type 0
-  Shut i = openCell key i (cellOf device i) ≡ WrongTag
-
-  -- What the search for a cell comes to.
-  pub data CellsEnd : Cell → Type 0 where
-    lowest : (k : ℕ) (vmk : List ℕ) → Lowest device key k vmk → CellsEnd (At k vmk)
-    nowhere : ((i : ℕ) → i < 15 → Shut i) → CellsEnd NoCell
-
-  -- From cell i on, where those before it do not open.
-  firstCell-from : (left i : ℕ) → i + left ≡ 15 → ((j : ℕ) → j < i → Shut j) → CellsEnd (firstCell key (cellOf device) left i)
-  unfolding firstCell
-  firstCell-from zero i q before = nowhere (λ j l. before j (omega arith))
-  firstCell-from (suc left) i q before =
-      go (openCell key i (cellOf device i)) refl
-      (λ e. firstCell-from left (suc i) (omega arith) (λ j l. ⊎-elim (λ k. subst Shut (sym k) e) (before j) (eq-or-lt-of-le (le-of-suc-le-suc l))))
-    where
-      go : (o : Opened) → openCell key i (cellOf device i) ≡ o → {rest : Cell} → (Shut i → CellsEnd rest) → CellsEnd (orNext o i rest)
-      go (Text vmk) e goes = lowest i vmk (record { top = omega arith; opens = e; below = λ j l. before j (omega arith) })
-      go WrongTag e goes = goes e
-
-  pub firstCell-ends : CellsEnd (firstCell key (cellOf device) 15 0)
-  firstCell-ends = firstCell-from 15 0 (omega arith) (λ j l. absurd (omega arith))
-
-  cellsEnd-lowest : {c : Cell} → CellsEnd c → (k : ℕ) (vmk : List ℕ) → c ≡ At k vmk → Lowest device key k vmk
-  cellsEnd-lowest (nowhere shut) k vmk e = let z : _≡_ {A = ℕ} 0 1 = cc in absurd (omega arith)
-  cellsEnd-lowest (lowest n v low) k vmk e =
-      let n≡k : n ≡ k = cc in
-      let v≡ : v ≡ vmk = cc in
-      rw (← n≡k, ← v≡) low
-
-  pub firstCell-lowest : (k : ℕ) (vmk : List ℕ) → firstCell key (cellOf device) 15 0 ≡ At k vmk → Lowest device key k vmk
-  firstCell-lowest = cellsEnd-lowest firstCell-ends
 
 -- ---- the headers
 
@@ -74,7 +36,7 @@ module _ (device : List ℕ) (g : Geometry) (k : ℕ) (top : List ℕ) where
   -- keys has the VEKs of volumes n to k end to end.
   pub record UnlockedFrom (n : ℕ) (keys : List ℕ) : Type 0 where
     pub size : 32 * n + length keys ≡ 32 * (k + 1)
-    each : (j : ℕ) → n + j ≤ k → Unlocked device g k top (n + j) (part (32 * j) 32 keys)
+    each : (j : ℕ) → n + j ≤ k → Unlocked device g k top (n + j) (keyIn keys j)
 
   -- What the chain of headers comes to: the data keys, or the first header whose tag is wrong or that does not fit.
   pub data ChainEnds : Chain → Type 0 where
@@ -112,7 +74,7 @@ module _ (device : List ℕ) (g : Geometry) (k : ℕ) (top : List ℕ) where
         size : length (vekOf text) ≡ 32
         size = vekOf-length n hn vmk text e
 
-        each : (j : ℕ) → n + j ≤ k → Unlocked device g k top (n + j) (part (32 * j) 32 (vekOf text ++ above))
+        each : (j : ℕ) → n + j ≤ k → Unlocked device g k top (n + j) (keyIn (vekOf text ++ above) j)
         each zero l =
             rw add-zero (record { vmk = vmk; text = text; reached = reached; opens = e; fits = fits; is = take-at (vekOf text) above 32 size })
         each (suc j) l =

@@ -13,8 +13,8 @@ use Rattle.model.specs.Read.{ReadResult}
 use Rattle.model.specs.Write.{WriteResult}
 use Rattle.model.specs.Close.{CloseResult}
 use Rattle.guarantees.specs.Runs.{State, Call, Event, Reads, Finds, Writes, Closes, outcome, next}
-use Rattle.model.specs.Conditions.{Enough}
-use Rattle.guarantees.specs.Rules.{heldEntry, blockIn, sliceAt, AllHeld, FirstFree, FirstBad}
+use Rattle.model.specs.Conditions.{Enough, sliceAt, AllHeld, FirstFree, FirstBad}
+use Rattle.guarantees.specs.Rules.{heldEntry, blockIn}
 use Rattle.guarantees.specs.Effects.{closeBytes}
 
 -- Block a of volume i.

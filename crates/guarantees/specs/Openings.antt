@@ -8,9 +8,8 @@ use mathlib.Core.Bool.{false}
 use lib.ListN.{length, replicate}
 use Rattle.gcm.specs.Gcm.{Text, WrongTag}
 use Rattle.model.specs.declared.Geometry.{Geometry}
-use Rattle.model.specs.Parts.{part}
 use Rattle.model.specs.Geometry.{numberAt, cellOf, headerOf}
-use Rattle.model.specs.Session.{unmapped}
+use Rattle.model.specs.Session.{unmapped, keyIn}
 use Rattle.model.specs.Opening.{OpenOutcome, OpenTo, NotOpened, openCell, openHeader, vekOf, vmkBelow, mapEntries}
 use Rattle.guarantees.specs.Rules.{First, openRules}
 
@@ -41,11 +40,11 @@ pub record Unlocked (device : List ℕ) (g : Geometry) (k : ℕ) (top : List ℕ
 
 -- Every header k down to 0 opens and fits, and keys has their VEKs end to end.
 abbrev pub AllUnlocked : (device : List ℕ) → Geometry → (k : ℕ) → (top keys : List ℕ) → Type 0
-AllUnlocked device g k top keys = (i : ℕ) → i ≤ k → Unlocked device g k top i (part (32 * i) 32 keys)
+AllUnlocked device g k top keys = (i : ℕ) → i ≤ k → Unlocked device g k top i (keyIn keys i)
 
 -- Each of the first n entries is the mark, or a slice that no entry before it names.
-abbrev pub Sound : (entries : ℕ → ℕ) → (p n : ℕ) → Type 0
-Sound entries p n = (m : ℕ) → m < n → (entries m ≡ unmapped) ⊎ ((entries m < p) × ((l : ℕ) → l < m → entries l ≡ entries m → ⊥))
+abbrev pub GoodEntries : (entries : ℕ → ℕ) → (p n : ℕ) → Type 0
+GoodEntries entries p n = (m : ℕ) → m < n → (entries m ≡ unmapped) ⊎ ((entries m < p) × ((l : ℕ) → l < m → entries l ≡ entries m → ⊥))
 
 -- ---- the answer
 
@@ -85,16 +84,16 @@ pub data OpenAnswered (device : List ℕ) (g : Geometry) (key maps owners perm :
       → OpenAnswered device g key maps owners perm (refusedEmpty 8 g)
   bad-entry : Accepted device g key maps owners perm
       → (k : ℕ) (top keys : List ℕ) → Lowest device key k top → AllUnlocked device g k top keys
-      → (n : ℕ) → n < (k + 1) * g .p → Sound (mapEntries g (headerOf g device) keys) (g .p) n
+      → (n : ℕ) → n < (k + 1) * g .p → GoodEntries (mapEntries g (headerOf g device) keys) (g .p) n
       → (mapEntries g (headerOf g device) keys n ≡ unmapped → ⊥) → g .p ≤ mapEntries g (headerOf g device) keys n
       → OpenAnswered device g key maps owners perm (refusedEmpty 9 g)
   slice-twice : Accepted device g key maps owners perm
       → (k : ℕ) (top keys : List ℕ) → Lowest device key k top → AllUnlocked device g k top keys
-      → (n : ℕ) → n < (k + 1) * g .p → Sound (mapEntries g (headerOf g device) keys) (g .p) n
+      → (n : ℕ) → n < (k + 1) * g .p → GoodEntries (mapEntries g (headerOf g device) keys) (g .p) n
       → mapEntries g (headerOf g device) keys n < g .p
       → (m : ℕ) → m < n → mapEntries g (headerOf g device) keys m ≡ mapEntries g (headerOf g device) keys n
       → OpenAnswered device g key maps owners perm (refusedEmpty 10 g)
   served : Accepted device g key maps owners perm
       → (k : ℕ) (top : List ℕ) (o : OpenOutcome) → Lowest device key k top → AllUnlocked device g k top (o .session .keys)
-      → Sound (mapEntries g (headerOf g device) (o .session .keys)) (g .p) ((k + 1) * g .p)
+      → GoodEntries (mapEntries g (headerOf g device) (o .session .keys)) (g .p) ((k + 1) * g .p)
       → o .answer ≡ OpenTo k → OpenAnswered device g key maps owners perm o

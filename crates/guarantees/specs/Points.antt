@@ -11,13 +11,13 @@ use Rattle.model.specs.declared.Change.the-variants.{Claimed, Rewritten}
 use Rattle.model.specs.Parts.{part, patched}
 use Rattle.model.specs.Geometry.{cellOf, headerOf, sliceStart, sliceSize}
 use Rattle.model.specs.Session.{Held, held, geometry, keyOf, blockCount, entry, entryOf, sliceOf, offsetOf, unmapped}
-use Rattle.model.specs.Conditions.{TablesFit}
+use Rattle.model.specs.Conditions.{TablesFit, FirstFree, Names, sliceAt}
 use Rattle.model.specs.Opening.{OpenOutcome, OpenTo, openModel, storedEntry}
 use Rattle.model.specs.Read.{ReadResult, Filled, readModel, findModel, deciphered}
 use Rattle.model.specs.Write.{WriteResult, writeModel}
 use Rattle.model.specs.Close.{CloseResult, closeModel}
-use Rattle.guarantees.specs.Runs.{State, Call, Writing, Closing, Writes, Closes, outcome, next, final, events, positions, allPlaces, Within}
-use Rattle.guarantees.specs.Rules.{First, readRules, writeRules, closeRules, SearchEnds, FirstFree, Names, heldEntry, ivIn, blockIn, sliceAt}
+use Rattle.guarantees.specs.Runs.{State, Call, Writing, Closing, Writes, Closes, outcome, next, final, events, positions, writtenByAll, Within}
+use Rattle.guarantees.specs.Rules.{First, readRules, writeRules, closeRules, SearchEnds, heldEntry, ivIn, blockIn}
 use Rattle.guarantees.specs.Openings.{Lowest, Unlocked, OpenAnswered}
 use Rattle.guarantees.specs.Effects.{heldAfterAll, storedByAll, Follows}
 use Rattle.guarantees.specs.Arrays.{Arrays, arraysAfterAll, AllDue}
@@ -142,7 +142,8 @@ pub record Run (s : List ℕ) (x : Handed) (l : Lent) (k : ℕ) (cs : List Call)
   pub held : final (begin s x l) cs .held ≡ heldAfterAll (holds s x l) (events (begin s x l) cs)
   -- The device is the first one with what the calls store in order, and is its own but for the written places.
   pub stored : final (begin s x l) cs .device ≡ patched (storedByAll (holds s x l) (events (begin s x l) cs)) s
-  pub kept : (p : ℕ) → (Within p (allPlaces (x .geometry) k (events (begin s x l) cs)) → ⊥) → getD (final (begin s x l) cs .device) p 0 ≡ getD s p 0
+  pub kept : (p : ℕ) → (Within p (writtenByAll (x .geometry) k (events (begin s x l) cs)) → ⊥)
+      → getD (final (begin s x l) cs .device) p 0 ≡ getD s p 0
   -- Closed and opened again with the same key, any permutation that names each slice and any tables: the same arrays.
   pub again : (tape : List ℕ) → outcome (final (begin s x l) cs) (Closing tape) .answer ≡ Closes tape CloseResult.Closed
       → (y : Handed) (l′ : Lent) → y .geometry ≡ x .geometry → y .key ≡ x .key
@@ -168,7 +169,8 @@ pub record EqualRuns (k : ℕ) (st st′ : State) (cs : List Call) : Type 0 wher
   pub same-events : events st cs ≡ events st′ cs
   pub same-positions : positions st cs ≡ positions st′ cs
   pub same-held : final st cs .held ≡ final st′ cs .held
-  pub written : (p : ℕ) → Within p (allPlaces (geometry (st .held)) k (events st cs)) → getD (final st cs .device) p 0 ≡ getD (final st′ cs .device) p 0
+  pub written : (p : ℕ) → Within p (writtenByAll (geometry (st .held)) k (events st cs))
+      → getD (final st cs .device) p 0 ≡ getD (final st′ cs .device) p 0
 
 -- ---- points 2 and 3, of a served opening
 

@@ -8,7 +8,7 @@ use mathlib.Core.List.{List, [], _∷_, _++_}
 use lib.ListN.{length, getD}
 use Rattle.model.specs.declared.Geometry.{Geometry}
 use Rattle.model.specs.declared.Session.{Session}
-use Rattle.model.specs.Conditions.{Usable, TablesFit, EntryFits, Enough}
+use Rattle.model.specs.Conditions.{Usable, TablesFit, EntryFits, Enough, AllHeld, FirstFree, FirstBad, Names}
 use Rattle.model.specs.Parts.{part}
 use Rattle.model.specs.Geometry.{Allowed, deviceLength, mapBlocks, ivStart, blockStart}
 use Rattle.model.specs.Session.{Held, geometry, unmapped, entryOf, offsetOf}
@@ -40,37 +40,9 @@ ivIn device g ψ a = part (ivStart g ψ (offsetOf g a)) 16 device
 abbrev pub blockIn : List ℕ → Geometry → (ψ a : ℕ) → List ℕ
 blockIn device g ψ a = part (blockStart g ψ (offsetOf g a)) (g .b) device
 
--- ---- conditions
-
--- The slice at a place of a permutation.
-abbrev pub sliceAt : List ℕ → ℕ → ℕ
-sliceAt perm n = getD perm n 0
-
--- Each of the first n places names a slice, and it is held.
-abbrev pub AllHeld : (owners : List ℕ) → (p : ℕ) → (perm : List ℕ) → (n : ℕ) → Type 0
-AllHeld owners p perm n = (m : ℕ) → m < n → (sliceAt perm m < p) × (getD owners (sliceAt perm m) 0 ≡ 0 → ⊥)
-
--- Place n is the first whose slice is free.
-pub record FirstFree (owners : List ℕ) (p : ℕ) (perm : List ℕ) (n : ℕ) : Type 0 where
-  pub inside : n < length perm
-  pub slice : sliceAt perm n < p
-  pub free : getD owners (sliceAt perm n) 0 ≡ 0
-  pub before : AllHeld owners p perm n
-
--- Place n names no slice, and no place before it a free one.
-pub record FirstBad (owners : List ℕ) (p : ℕ) (perm : List ℕ) (n : ℕ) : Type 0 where
-  pub inside : n < length perm
-  pub bad : p ≤ sliceAt perm n
-  pub before : AllHeld owners p perm n
-
 -- Place n is where the search of a claim ends: the first free place, or the first that names no slice; any where all are held.
 abbrev pub SearchEnds : (owners : List ℕ) → (p : ℕ) → (perm : List ℕ) → (n : ℕ) → Type 0
 SearchEnds owners p perm n = FirstFree owners p perm n ⊎ FirstBad owners p perm n ⊎ AllHeld owners p perm (length perm)
-
--- A permutation of P places that names each slice.
-pub record Names (p : ℕ) (perm : List ℕ) : Type 0 where
-  pub places : length perm ≡ p
-  pub each : (ψ : ℕ) → ψ < p → (n : ℕ) × (n < length perm) × (sliceAt perm n ≡ ψ)
 
 -- ---- the orders
 

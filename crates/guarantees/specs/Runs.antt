@@ -80,19 +80,19 @@ mapRanges g (suc n) = mapRanges g n ++ record { at = mapStart g n; size = g .b *
 
 -- A claim of slice ψ writes all its blocks; a rewrite in ψ at offset j the IV of data block j, and that block; a served
 -- close the map blocks of volumes 0 to k; everything else nothing.
-unfoldable pub places : (g : Geometry) → (k : ℕ) → Event → List Range
-places g k (Writes i a text perm tape (WriteResult.Served (Claimed ψ) probes)) = record { at = sliceStart g ψ; size = sliceSize g } ∷ []
-places g k (Writes i a text perm tape (WriteResult.Served (Rewritten ψ) probes)) =
+unfoldable pub writtenBy : (g : Geometry) → (k : ℕ) → Event → List Range
+writtenBy g k (Writes i a text perm tape (WriteResult.Served (Claimed ψ) probes)) = record { at = sliceStart g ψ; size = sliceSize g } ∷ []
+writtenBy g k (Writes i a text perm tape (WriteResult.Served (Rewritten ψ) probes)) =
     record { at = ivStart g ψ (offsetOf g a); size = 16 } ∷ record { at = blockStart g ψ (offsetOf g a); size = g .b } ∷ []
-places g k (Writes i a text perm tape (WriteResult.Refused n probes)) = []
-places g k (Closes tape CloseResult.Closed) = mapRanges g (k + 1)
-places g k (Closes tape (CloseResult.Refused n)) = []
-places g k (Reads i a room r) = []
-places g k (Finds i a bytes) = []
+writtenBy g k (Writes i a text perm tape (WriteResult.Refused n probes)) = []
+writtenBy g k (Closes tape CloseResult.Closed) = mapRanges g (k + 1)
+writtenBy g k (Closes tape (CloseResult.Refused n)) = []
+writtenBy g k (Reads i a room r) = []
+writtenBy g k (Finds i a bytes) = []
 
-unfoldable pub allPlaces : (g : Geometry) → (k : ℕ) → List Event → List Range
-allPlaces g k [] = []
-allPlaces g k (e ∷ es) = places g k e ++ allPlaces g k es
+unfoldable pub writtenByAll : (g : Geometry) → (k : ℕ) → List Event → List Range
+writtenByAll g k [] = []
+writtenByAll g k (e ∷ es) = writtenBy g k e ++ writtenByAll g k es
 
 -- Place p lies in one of the ranges.
 unfoldable pub Within : ℕ → List Range → Type 0

@@ -32,7 +32,8 @@ module _ (g : Geometry) (key : List ℕ) (ψ j : ℕ) (device : List ℕ) where
 abbrev pub claimedBlock : (b : ℕ) → (key ivs : List ℕ) → (j : ℕ) → (text : List ℕ) → (n : ℕ) → List ℕ
 claimedBlock b key ivs j text n = ctr key (part (16 * n) 16 ivs) (choose (eqb n j) text (replicate b 0))
 
-pub claimedBlock-length : (b : ℕ) (key ivs : List ℕ) (j : ℕ) (text : List ℕ) → length text ≡ b → (n : ℕ) → length (claimedBlock b key ivs j text n) ≡ b
+pub claimedBlock-length : (b : ℕ) (key ivs : List ℕ) (j : ℕ) (text : List ℕ) → length text ≡ b → (n : ℕ)
+    → length (claimedBlock b key ivs j text n) ≡ b
 claimedBlock-length b key ivs j text e n = ctr-length _ _ _ ∙ go (eqb n j)
   where
     go : (x : Bool) → length (choose x text (replicate b 0)) ≡ b

@@ -1,29 +1,48 @@
--- The lowest cell that opens. Assumes nothing.
-use Prim.Native.Nat.{ℕ, zero, suc, _≤_, _<_}
-use mathlib.Core.Path.{_≡_, refl}
+-- What the search for a cell that opens comes to. Assumes nothing.
+use Prim.Native.Nat.{ℕ, zero, suc, _+_, _<_}
+use mathlib.Core.Path.{_≡_, refl, sym, subst}
 use mathlib.Core.List.{List}
 use mathlib.Core.Logic.{⊎-elim}
 use native.Mathlib.Omega.{arith}
-use native.Mathlib.Nat.{eq-or-lt-of-le}
+use native.Mathlib.Nat.{eq-or-lt-of-le, le-of-suc-le-suc}
 use Rattle.gcm.specs.Gcm.{Opened, Text, WrongTag}
-use Rattle.model.specs.Opening.{At, openCell, orNext, firstCell}
+use Rattle.model.specs.Opening.{Cell, At, NoCell, openCell, orNext, firstCell}
 
-module _ (key : List ℕ) (cell : ℕ → List ℕ) (k : ℕ) (vmk : List ℕ) where
-  -- Cell k opens, and none from cell n up to it does.
-  abbrev Lowest : ℕ → Type 0
-  Lowest n = (openCell key k (cell k) ≡ Text vmk) × ((j : ℕ) → n ≤ j → j < k → openCell key j (cell j) ≡ WrongTag)
+module _ (key : List ℕ) (cell : ℕ → List ℕ) where
+  -- Cell i does not open.
+  abbrev pub Shut : ℕ → Type 0
+  Shut i = openCell key i (cell i) ≡ WrongTag
 
-  pub firstCell-lowest : (left i : ℕ) → firstCell key cell left i ≡ At k vmk → Lowest i
+  -- Cell k opens, and no lower one does.
+  abbrev pub Lowest : (k : ℕ) → (vmk : List ℕ) → Type 0
+  Lowest k vmk = (k < 15) × (openCell key k (cell k) ≡ Text vmk) × ((i : ℕ) → i < k → Shut i)
+
+  -- The lowest that opens, of 15, or none.
+  pub data CellsEnd : Cell → Type 0 where
+    lowest : (k : ℕ) (vmk : List ℕ) → Lowest k vmk → CellsEnd (At k vmk)
+    nowhere : ((i : ℕ) → i < 15 → Shut i) → CellsEnd NoCell
+
+  -- From cell i on, where those before it do not open.
+  firstCell-from : (left i : ℕ) → i + left ≡ 15 → ((j : ℕ) → j < i → Shut j) → CellsEnd (firstCell key cell left i)
   unfolding firstCell
-  firstCell-lowest zero i e = absurd (let z : _≡_ {A = ℕ} 0 1 = cc in omega arith)
-  firstCell-lowest (suc left) i e = by-cell (openCell key i (cell i)) refl e (firstCell-lowest left (suc i))
+  firstCell-from zero i q before = nowhere (λ j l. before j (omega arith))
+  firstCell-from (suc left) i q before =
+      go (openCell key i (cell i)) refl
+      (λ e. firstCell-from left (suc i) (omega arith) (λ j l. ⊎-elim (λ k. subst Shut (sym k) e) (before j) (eq-or-lt-of-le (le-of-suc-le-suc l))))
     where
-      by-cell : (o : Opened) → openCell key i (cell i) ≡ o → orNext o i (firstCell key cell left (suc i)) ≡ At k vmk
-          → (firstCell key cell left (suc i) ≡ At k vmk → Lowest (suc i)) → Lowest i
-      by-cell (Text v) p q rest =
-          let here : i ≡ k = cc in
-          let same : v ≡ vmk = cc in
-          (rw (← here, p, same) refl, λ j l m. absurd (omega arith))
-      by-cell WrongTag p q rest =
-          let r = rest q in
-          (r .0, λ j l m. ⊎-elim (λ s. rw (← s) p) (λ s. r .1 j s m) (eq-or-lt-of-le l))
+      go : (o : Opened) → openCell key i (cell i) ≡ o → {rest : Cell} → (Shut i → CellsEnd rest) → CellsEnd (orNext o i rest)
+      go (Text vmk) e goes = lowest i vmk (omega arith, e, λ j l. before j (omega arith))
+      go WrongTag e goes = goes e
+
+  pub firstCell-ends : CellsEnd (firstCell key cell 15 0)
+  firstCell-ends = firstCell-from 15 0 (omega arith) (λ j l. absurd (omega arith))
+
+  cellsEnd-lowest : {c : Cell} → CellsEnd c → (k : ℕ) (vmk : List ℕ) → c ≡ At k vmk → Lowest k vmk
+  cellsEnd-lowest (nowhere shut) k vmk e = let z : _≡_ {A = ℕ} 0 1 = cc in absurd (omega arith)
+  cellsEnd-lowest (lowest n v low) k vmk e =
+      let n≡k : n ≡ k = cc in
+      let v≡ : v ≡ vmk = cc in
+      rw (← n≡k, ← v≡) low
+
+  pub firstCell-lowest : (k : ℕ) (vmk : List ℕ) → firstCell key cell 15 0 ≡ At k vmk → Lowest k vmk
+  firstCell-lowest = cellsEnd-lowest firstCell-ends

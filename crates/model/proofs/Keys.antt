@@ -5,6 +5,7 @@ use mathlib.Core.List.{List}
 use native.Mathlib.Omega.{arith}
 use lib.ListN.{length, replicate, length-append, length-replicate}
 use Rattle.model.specs.Parts.{part}
+use Rattle.model.specs.Session.{keyIn}
 use Rattle.model.specs.Opening.{allKeys}
 use Rattle.model.proofs.Parts.{part-right, part-replicate}
 
@@ -15,7 +16,7 @@ module _ (keys : List ℕ) (k : ℕ) (e : length keys ≡ 32 * (k + 1)) (l : k <
   pub allKeys-length : length (allKeys keys k) ≡ 480
   allKeys-length = omega (arith, length-append keys zeros, length-replicate {A = ℕ} (32 * (14 - k)) 0)
 
-  pub allKeys-above : (i : ℕ) → k < i → i < 15 → part (32 * i) 32 (allKeys keys k) ≡ replicate 32 0
+  pub allKeys-above : (i : ℕ) → k < i → i < 15 → keyIn (allKeys keys k) i ≡ replicate 32 0
   allKeys-above i lo hi =
       let x = 32 * (i - (k + 1)) in
       let at : 32 * i ≡ 32 * (k + 1) + x = omega arith in

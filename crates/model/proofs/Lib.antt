@@ -4,6 +4,7 @@ pub mod Bounds
 pub mod Order
 pub mod Requests
 pub mod Cells
+pub mod Searches
 pub mod Blocks
 pub mod MapBlocks
 pub mod Seals

@@ -6,6 +6,8 @@ use Rattle.refusals.specs.Numbers.{refusalNumber}
 use Rattle.refusals.specs.declared.Answer.{Answer}
 use Rattle.refusals.specs.declared.Answer.the-variants as answer
 use Rattle.model.specs.declared.Session.{Session}
+use Rattle.model.specs.declared.Change.{Change}
+use Rattle.model.specs.declared.Change.the-variants.{Claimed, Rewritten}
 use Rattle.model.specs.declared.OpenAnswer.{OpenAnswer}
 use Rattle.model.specs.declared.OpenAnswer.the-variants as open-answer
 use Rattle.model.specs.declared.WriteAnswer.{WriteAnswer}
@@ -21,6 +23,11 @@ use Rattle.model.specs.Close.{CloseResult, Closed}
 abbrev pub openResult : OpenAnswer → OpenResult
 openResult (open-answer.Opened k) = OpenTo k
 openResult (open-answer.Refused r) = NotOpened (refusalNumber r)
+
+-- The slice that a served write claimed or rewrote.
+abbrev pub changeSlice : Change → ℕ
+changeSlice (Claimed ψ) = ψ
+changeSlice (Rewritten ψ) = ψ
 
 -- Write: claimed or rewritten with slice and count, or the refusal's number with its count.
 abbrev pub writeResult : WriteAnswer → WriteResult

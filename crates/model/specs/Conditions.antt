@@ -1,8 +1,10 @@
--- The facts behind the refusals that requests share, in the document's words ("Refused for .."). Assumes nothing.
+-- The facts behind the refusals, in the document's words ("Refused for .."). Assumes nothing.
 use Prim.Native.Nat.{ℕ, _+_, _*_, _≤_, _<_}
 use mathlib.Core.Path.{_≡_}
 use mathlib.Core.Logic.{_⊎_}
 use mathlib.Core.Bool.{true}
+use mathlib.Core.List.{List}
+use lib.ListN.{length, getD}
 use Rattle.model.specs.declared.Geometry.{Geometry}
 use Rattle.model.specs.declared.Session.{Session}
 use Rattle.model.specs.Geometry.{Allowed}
@@ -25,3 +27,31 @@ EntryFits g x = (x ≡ unmapped) ⊎ (x < g .p)
 -- A tape has n bytes from a position on (21).
 abbrev pub Enough : (tape position n : ℕ) → Type 0
 Enough tape position n = position + n ≤ tape
+
+-- ---- permutations
+
+-- The slice at a place of a permutation.
+abbrev pub sliceAt : List ℕ → ℕ → ℕ
+sliceAt perm n = getD perm n 0
+
+-- Each of the first n places names a slice, and it is held.
+abbrev pub AllHeld : (owners : List ℕ) → (p : ℕ) → (perm : List ℕ) → (n : ℕ) → Type 0
+AllHeld owners p perm n = (m : ℕ) → m < n → (sliceAt perm m < p) × (getD owners (sliceAt perm m) 0 ≡ 0 → ⊥)
+
+-- Place n is the first whose slice is free.
+pub record FirstFree (owners : List ℕ) (p : ℕ) (perm : List ℕ) (n : ℕ) : Type 0 where
+  pub inside : n < length perm
+  pub slice : sliceAt perm n < p
+  pub free : getD owners (sliceAt perm n) 0 ≡ 0
+  pub before : AllHeld owners p perm n
+
+-- Place n names no slice, and no place before it a free one.
+pub record FirstBad (owners : List ℕ) (p : ℕ) (perm : List ℕ) (n : ℕ) : Type 0 where
+  pub inside : n < length perm
+  pub bad : p ≤ sliceAt perm n
+  pub before : AllHeld owners p perm n
+
+-- A permutation of P places that names each slice (5).
+pub record Names (p : ℕ) (perm : List ℕ) : Type 0 where
+  pub places : length perm ≡ p
+  pub each : (ψ : ℕ) → ψ < p → (n : ℕ) × (n < length perm) × (sliceAt perm n ≡ ψ)

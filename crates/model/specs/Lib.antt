@@ -1,8 +1,26 @@
+-- What each call of the engine answers and leaves, by document 01, and what is proved of it. The document's words and ours:
+--
+--   stick            device: its bytes, as a list
+--   tape mark        tape position: the number of the next unused tape byte (`TapePosition`, `Held.position`)
+--   mark FFFFFFFF    `unmapped`, the entry of a logical slice that has no slice
+--   places looked at probes, the places of the permutation that a claim passed or took
+--   B, S, P, m, H    `Geometry` b, s, p; `mapBlocks`, `headerBlocks`
+--   slice ψ          a physical slice, by its number; logical slice σ of a volume is an index into its row of the map table
+--   entry            what the map table or a header's map holds for a logical slice: a slice's number or the mark. `entry` is that of
+--                    logical slice σ of volume i in a table, `entryOf` that of a block address, `storedEntry` the one in a header's map
+--                    blocks, `mapEntries` all of these by their index in the table
+--   offset j         the number of a data block in its slice
+--   owner            0 for a free slice, i + 1 for one that volume i holds
+--   VMK, VEK         the master key and the data key of a volume
+--   cell, header     `cellOf` and `headerOf` a device: 60 bytes; 1 + m blocks
+--
+-- A refusal is its number in document 01, 0 where none applies. What a call does to the device is a list of patches (place and
+-- bytes), made from its arguments and the device's length alone.
 pub mod Parts
 pub mod Geometry
 pub mod Session
-pub mod Conditions
 pub mod Opening
+pub mod Conditions
 pub mod Read
 pub mod Write
 pub mod Close

@@ -11,7 +11,7 @@ use Rattle.model.specs.declared.Geometry.{Geometry}
 use Rattle.model.specs.declared.Session.{Session}
 use Rattle.model.specs.Parts.{choose, part}
 use Rattle.model.specs.Geometry.{badGeometry, deviceLength, perBlock, numberAt, cellOf, headerOf}
-use Rattle.model.specs.Session.{unmapped, unless, noKeys}
+use Rattle.model.specs.Session.{unmapped, unless, keyIn, noKeys}
 
 -- ---- the lowest cell that opens
 
@@ -73,7 +73,7 @@ storedEntry g vek header σ =
 
 -- The entry at index n of the map table: that of logical slice n % P of volume n / P.
 abbrev pub mapEntries : Geometry → (header : ℕ → List ℕ) → (keys : List ℕ) → (n : ℕ) → ℕ
-mapEntries g header keys n = storedEntry g (part (32 * (n / g .p)) 32 keys) (header (n / g .p)) (n % g .p)
+mapEntries g header keys n = storedEntry g (keyIn keys (n / g .p)) (header (n / g .p)) (n % g .p)
 
 -- The tables, or the refusal 9 or 10.
 pub data Loaded : Type 0 where

@@ -29,9 +29,12 @@ held maps owners position s = record { maps = maps; owners = owners; position = 
 abbrev pub geometry : Held → Geometry
 geometry h = h .session .geometry
 
--- The data key of volume i.
+-- The data key of volume i, among keys end to end and in a session.
+abbrev pub keyIn : (keys : List ℕ) → (i : ℕ) → List ℕ
+keyIn keys i = part (32 * i) 32 keys
+
 abbrev pub keyOf : Session → ℕ → List ℕ
-keyOf s i = part (32 * i) 32 (s .keys)
+keyOf s i = keyIn (s .keys) i
 
 -- The blocks of volume i.
 abbrev pub blockCount : Geometry → ℕ → ℕ

@@ -12,17 +12,19 @@ use Rattle.ctr.specs.CounterMode.{ctr}
 use Rattle.model.specs.declared.Geometry.{Geometry}
 use Rattle.model.specs.declared.Session.{Session}
 use Rattle.model.specs.declared.Change.{Change}
+use Rattle.model.specs.declared.Change.the-variants.{Claimed, Rewritten}
 use Rattle.model.specs.declared.OpenAnswer.the-variants as open-answer
 use Rattle.model.specs.declared.WriteAnswer.the-variants as write-answer
 use Rattle.model.specs.Parts.{choose, part, joined, patched}
 use Rattle.model.specs.Geometry.{Allowed, perBlock, mapBlocks, headerBlocks, deviceLength, numberAt, fourBytes, cellStart, cellOf}
 use Rattle.model.specs.Geometry.{headerStart, headerOf, mapStart, sliceStart, sliceSize, ivStart, blockStart}
-use Rattle.model.specs.Session.{Held, held, Outcome, keyOf, slot, sliceOf, offsetOf, unmapped, noKeys}
-use Rattle.model.specs.Opening.{At, openCell, openHeader, vekOf, vmkBelow, firstCell, storedEntry, allKeys, OpenResult, OpenTo, NotOpened, OpenOutcome}
+use Rattle.model.specs.Session.{Held, held, Outcome, keyIn, keyOf, slot, sliceOf, offsetOf, unmapped, noKeys}
+use Rattle.model.specs.Opening.{At, openCell, openHeader, vekOf, vmkBelow, firstCell, storedEntry, allKeys}
+use Rattle.model.specs.Opening.{OpenResult, OpenTo, NotOpened, OpenOutcome}
 use Rattle.model.specs.Read.{deciphered, Filled, Refused}
 use Rattle.model.specs.Write.{WriteResult, claimedBytes, claimed}
 use Rattle.model.specs.Close.{CloseResult, mapBlock}
-use Rattle.model.specs.Answers.{openResult, writeResult, closeResult, readNumber, readBuffer, OpenLeaves, Leaves}
+use Rattle.model.specs.Answers.{openResult, changeSlice, writeResult, closeResult, readNumber, readBuffer, OpenLeaves, Leaves}
 
 -- ---- where things stand (document 01, "Geometry of a stick")
 
@@ -108,6 +110,8 @@ pub record AnswerLaws : Type 0 where
       → o ≡ record { answer = answer; maps = maps; owners = owners; session = s }
   pub read-served : (bytes old : List ℕ) → (readNumber (Filled bytes) ≡ 0) × (readBuffer (Filled bytes) old ≡ bytes)
   pub read-refused : (n : ℕ) (old : List ℕ) → (readNumber (Refused n) ≡ n) × (readBuffer (Refused n) old ≡ old)
+  pub claimed-slice : (ψ : ℕ) → changeSlice (Claimed ψ) ≡ ψ
+  pub rewritten-slice : (ψ : ℕ) → changeSlice (Rewritten ψ) ≡ ψ
   pub write-served : (change : Change) (probes : ℕ) → writeResult (write-answer.Served change probes) ≡ WriteResult.Served change probes
   pub write-refused : (r : Refusal) (probes : ℕ) → writeResult (write-answer.Refused r probes) ≡ WriteResult.Refused (refusalNumber r) probes
   pub write-leaves : LeavesAll WriteResult
@@ -123,7 +127,7 @@ pub record ModelLaws : Type 0 where
       → (openCell key k (cell k) ≡ Text vmk) × ((i : ℕ) → i < k → openCell key i (cell i) ≡ WrongTag)
   -- The data keys of an opening to volume k are 15 times 32 bytes, those above k zeros; no key at all is 480 zeros.
   pub keys-above : (keys : List ℕ) (k : ℕ) → length keys ≡ 32 * (k + 1) → k < 15
-      → (length (allKeys keys k) ≡ 480) × ((i : ℕ) → k < i → i < 15 → part (32 * i) 32 (allKeys keys k) ≡ replicate 32 0)
+      → (length (allKeys keys k) ≡ 480) × ((i : ℕ) → k < i → i < 15 → keyIn (allKeys keys k) i ≡ replicate 32 0)
   pub no-keys : noKeys ≡ replicate 480 0
   -- A claimed slice begins with its IV block; every data block deciphers under its IV to zeros, but for the block that was asked for.
   pub claimed-ivs : (b s : ℕ) (key ivs : List ℕ) (j : ℕ) (text : List ℕ) → length ivs ≡ b → part 0 b (claimedBytes b s key ivs j text) ≡ ivs

@@ -3,7 +3,9 @@
 use Prim.Native.Nat.{ℕ, zero, suc}
 use mathlib.Core.Bool.{Bool, true, false}
 use Rattle.refusals.specs.declared.Refusal.{Refusal}
-use Rattle.refusals.specs.declared.Refusal.the-variants.{BadGeometry, DeviceLength, KeyLength, TableLength, BadPermutation, NoCell, HeaderTag, HeaderGeometry, BadEntry, SliceTwice, VolumeAbove, AddressAbove, WrongLength, MalformedLine, TagDiffers, NotOpen, TapeShort, NoFreeSlice}
+use Rattle.refusals.specs.declared.Refusal.the-variants.{BadGeometry, DeviceLength, KeyLength, TableLength, BadPermutation, NoCell}
+use Rattle.refusals.specs.declared.Refusal.the-variants.{HeaderTag, HeaderGeometry, BadEntry, SliceTwice, VolumeAbove, AddressAbove}
+use Rattle.refusals.specs.declared.Refusal.the-variants.{WrongLength, MalformedLine, TagDiffers, NotOpen, TapeShort, NoFreeSlice}
 use Rattle.refusals.specs.declared.Answer.{Answer}
 use Rattle.refusals.specs.declared.Answer.the-variants.{Served, Refused}
 

@@ -22,7 +22,7 @@ use Rattle.model.specs.Opening.{member}
 use Rattle.model.proofs.Tests.{equal-passes, badEntry-fits}
 use Rattle.model.proofs.Requests.{Stands, standing-stands, short-true}
 use Rattle.model.proofs.Bounds.{b-bounds}
-use Rattle.deciding.proofs.Outcomes.{firstFree-free}
+use Rattle.model.proofs.Searches.{firstFree-free}
 use Rattle.walk.specs.State.{zeros, endless}
 use Rattle.walk.specs.Theorems.{answerNumbers}
 use Rattle.walk.proofs.Example.{zeros-length}
@@ -100,4 +100,4 @@ module _ (h : Held) (perm : List ℕ) (i a : ℕ) where
         claims (Free ψ place) e =
             choose-cases P (short (length endless) (h .position) (g .b))
             (λ s. absurd (short-true _ _ _ s (endless-enough (g .b) (b-bounds g (fits .stands .usable .allowed) .1))))
-            (λ s. let found = firstFree-free _ _ 0 perm ψ place e in cl ψ place (found .0) (omega (arith, found .1)))
+            (λ s. let found = firstFree-free _ _ perm ψ place e in cl ψ place (found .0) (omega (arith, found .1)))

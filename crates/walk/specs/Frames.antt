@@ -7,12 +7,11 @@ use lib.ListN.{length, getD}
 use Rattle.refusals.specs.Numbers.{refuse}
 use Rattle.block.specs.Bytes.{number, bigEndian}
 use Rattle.model.specs.declared.Geometry.{Geometry}
-use Rattle.model.specs.declared.Change.{Change}
-use Rattle.model.specs.declared.Change.the-variants.{Claimed, Rewritten}
 use Rattle.model.specs.Parts.{choose, part}
 use Rattle.model.specs.Geometry.{badGeometry, blockStart}
 use Rattle.model.specs.Session.{geometry, offsetOf, unless}
 use Rattle.model.specs.Opening.{missing}
+use Rattle.model.specs.Answers.{changeSlice}
 use Rattle.model.specs.Write.{WriteResult}
 use Rattle.walk.specs.Hexadecimal.{Spelt, Bytes, Neither, digits, decode}
 use Rattle.walk.specs.State.{State, empty, engineWrite}
@@ -75,11 +74,6 @@ onOrder w fields =
 
 -- ---- frame 03: volume, one byte, and address, four
 
--- The slice of a served write.
-abbrev pub sliceIn : Change → ℕ
-sliceIn (Claimed ψ) = ψ
-sliceIn (Rewritten ψ) = ψ
-
 -- 00, slice (two bytes), device block (four), places looked at (two), tape position after (four).
 abbrev pub served : (slice block probes position : ℕ) → List ℕ
 served slice block probes position = 0 ∷ (bigEndian 2 slice ++ (bigEndian 4 block ++ (bigEndian 2 probes ++ bigEndian 4 position)))
@@ -87,7 +81,7 @@ served slice block probes position = 0 ∷ (bigEndian 2 slice ++ (bigEndian 4 bl
 -- The answer of the engine's write at block offset j, printed: the refusal alone, or the served values.
 abbrev pub printed : Geometry → (j position : ℕ) → WriteResult → List ℕ
 printed g j position (WriteResult.Refused n probes) = n ∷ []
-printed g j position (WriteResult.Served change probes) = served (sliceIn change) (blockStart g (sliceIn change) j / g .b) probes position
+printed g j position (WriteResult.Served change probes) = served (changeSlice change) (blockStart g (changeSlice change) j / g .b) probes position
 
 -- A state with one frame 03 more.
 abbrev pub counting : State → State

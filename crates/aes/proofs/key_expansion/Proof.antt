@@ -1,4 +1,5 @@
--- `aes::key_expansion` meets its contract. Before turn i the first i bytes are the key's, in the second loop the first 4i the schedule's. Assumes nothing.
+-- `aes::key_expansion` meets its contract. Before turn i the first i bytes are the key's, in the second loop the first 4i the
+-- schedule's. Assumes nothing.
 use mathlib.Core.Path.{_≡_}
 use Prim.Native.Nat.{_≤_, _*_, _-_}
 use native.Mathlib.Omega.{arith}

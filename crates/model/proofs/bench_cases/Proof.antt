@@ -14,9 +14,64 @@ use Rattle.model.proofs.bench_cases.Statement.{statement}
 use Rattle.model.proofs.bench_cases.Tie as tie
 
 returns : tie.Need-returns
-unfolding cases refuse badGeometry mapBlocks headerBlocks deviceLength mapStart sliceStart ivStart blockStart standing asked short search firstFree anyBad closeRefusal
-    xtimes timesBits times squared squares inverse bit affineBit affine sbox numberAfter bigEndian increment
-returns c = (refl, (refl, (refl, (refl, (refl, (refl, (refl, (refl, (refl, (refl, (refl, (refl, (refl, (refl, (refl, (refl, (refl, (refl, (refl, (refl, (refl, (refl, tt))))))))))))))))))))))
+unfolding cases refuse badGeometry mapBlocks headerBlocks deviceLength mapStart sliceStart ivStart blockStart standing asked short
+    search firstFree anyBad closeRefusal xtimes timesBits times squared squares inverse bit affineBit affine sbox
+    numberAfter bigEndian increment
+returns c = (
+  refl,
+  (
+    refl,
+    (
+      refl,
+      (
+        refl,
+        (
+          refl,
+          (
+            refl,
+            (
+              refl,
+              (
+                refl,
+                (
+                  refl,
+                  (
+                    refl,
+                    (
+                      refl,
+                      (
+                        refl,
+                        (
+                          refl,
+                          (
+                            refl,
+                            (
+                              refl,
+                              (
+                                refl,
+                                (
+                                  refl,
+                                  (
+                                    refl,
+                                    (refl, (refl, (refl, (refl, tt)))),
+                                  ),
+                                ),
+                              ),
+                            ),
+                          ),
+                        ),
+                      ),
+                    ),
+                  ),
+                ),
+              ),
+            ),
+          ),
+        ),
+      ),
+    ),
+  ),
+)
 
 pub bench-cases-spec : {M : Type 1} → statement M
 bench-cases-spec = tie.close (tie.spec returns)

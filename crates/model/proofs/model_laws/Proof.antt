@@ -1,6 +1,5 @@
 -- `model::model_laws` meets its contract. Assumes nothing.
 use mathlib.Core.Path.{refl}
-use native.Mathlib.Omega.{arith}
 use lib.Seq.{getD-set-same}
 use Rattle.model.specs.Session.{noKeys}
 use Rattle.model.proofs.Blocks.{claimed-ivs, claimed-block}
@@ -14,7 +13,7 @@ use Rattle.model.proofs.model_laws.Tie as tie
 returns : tie.Need-returns
 returns c =
     record {
-      lowest = λ key cell k vmk e. let l = firstCell-lowest key cell k vmk 15 0 e in (l .0, λ i h. l .1 i (omega arith) h);
+      lowest = λ key cell k vmk e. let l = firstCell-lowest key cell k vmk e in (l .1, l .2);
       keys-above = λ keys k e l. (allKeys-length keys k e l, allKeys-above keys k e l);
       no-keys = unfold noKeys in refl;
       claimed-ivs = claimed-ivs;
