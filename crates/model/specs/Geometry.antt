@@ -72,7 +72,7 @@ headerOf g device i = part (headerStart g i) (g .b * (1 + mapBlocks g)) device
 
 -- The first map block of volume i.
 unfoldable pub mapStart : Geometry → ℕ → ℕ
-mapStart g i = g .b * (1 + i * (1 + mapBlocks g) + 1)
+mapStart g i = headerStart g i + g .b
 
 -- ---- slices
 

@@ -67,8 +67,7 @@ pub record HeaderText (text vek below : List ℕ) (p s : ℕ) : Type 0 where
   pub third : numberAt 64 text ≡ p
   pub fourth : numberAt 68 text ≡ s
 
--- The part of a device from a place on opens to a text: its IV, its ciphertext of n bytes and its tag are those of this text under
--- the key, with the byte i as associated data.
+-- From a place on a device holds a text sealed under a key, with the byte i as associated data: IV 12, ciphertext n, tag 16.
 pub record Sealed (key : List ℕ) (i at n : ℕ) (device text : List ℕ) : Type 0 where
   pub cipher : part (at + 12) n device ≡ gcmText key (part at 12 device) text
   pub tag : part (at + 12 + n) 16 device ≡ gcmTag key (part at 12 device) (i ∷ []) (part (at + 12) n device)
