@@ -3,7 +3,7 @@
 // `open` is the public call: any arguments. It draws nothing from the tape. Cells above the one that opens, the salt, and
 // the rest of the master block and of a header's first block are never read.
 ghost use mathlib.Core.Path.{_≡_};
-ghost use Prim.Native.Nat.{_+_, _-_, _*_, _/_, _%_, _≤_, _<_};
+ghost use Prim.Native.Nat.{_+_, _-_, _*_, _%_, _≤_, _<_};
 ghost use lib.ListN.{length};
 ghost use Rattle.refusals.specs.Numbers.{answerNumber};
 ghost use Rattle.ctr.specs.CounterMode.{ctr};
@@ -11,7 +11,8 @@ ghost use Rattle.gcm.specs.Call.{openedOver};
 ghost use Rattle.model.specs.Parts.{part};
 ghost use Rattle.model.specs.Geometry.{Allowed, mapBlocks, deviceLength, perBlock, numberAt, cellOf, headerOf};
 ghost use Rattle.model.specs.Session.{noKeys};
-ghost use Rattle.model.specs.Opening.{openCell, firstCell, openHeader, chain, storedEntry, mapEntries, load, noMaps, noOwners, openRefusal, noSession, loadMaps, withTables, withCell, openModel};
+ghost use Rattle.model.specs.Opening.{openCell, firstCell, openHeader, chain, storedEntry, mapEntries, load, noMaps, noOwners};
+ghost use Rattle.model.specs.Opening.{openRefusal, noSession, loadMaps, withTables, withCell, openModel};
 ghost use Rattle.model.specs.Answers.{openResult, OpenLeaves};
 ghost use Rattle.tables.specs.Settled.{Settled};
 ghost use Rattle.opening.specs.Steps.{isText, CellFound, HeaderOpened, ChainOpened};
@@ -186,7 +187,7 @@ fn load_volume(
         (now (maps .entry)) (now (owners .entry))) (answerNumber r) (now (maps .exit)) (now (owners .exit)) ⌝ }
 {
     let p = g.p;
-    let c = (g.b - 16) / 4;
+    let c = places::entries_per_block(g);
     let start = volume * p;
     let mut t = 0;
     let mut done = 0;

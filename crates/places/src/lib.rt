@@ -8,7 +8,8 @@ ghost use lib.ListN.{length, replicate};
 ghost use Rattle.refusals.specs.Numbers.{refusalNumber, answerNumber};
 ghost use Rattle.ctr.specs.CounterMode.{ctr};
 ghost use Rattle.model.specs.Parts.{overlay};
-ghost use Rattle.model.specs.Geometry.{Allowed, badGeometry, mapBlocks, headerBlocks, deviceLength, numberAt, fourBytes, headerStart, mapStart, sliceStart, ivStart, blockStart};
+ghost use Rattle.model.specs.Geometry.{Allowed, badGeometry, perBlock, mapBlocks, headerBlocks, deviceLength, numberAt, fourBytes};
+ghost use Rattle.model.specs.Geometry.{headerStart, mapStart, sliceStart, ivStart, blockStart};
 use model::Geometry;
 use refusals::Answer;
 use refusals::Refusal;
@@ -39,12 +40,20 @@ pub fn check_geometry(refusal: Refusal, g: Geometry) -> Answer
     Answer::Served
 }
 
+// The entries in a map block.
+pub fn entries_per_block(g: Geometry) -> usize
+    requires { ⌜ Allowed g ⌝ }
+    ensures { λ r. ⌜ r ≡ perBlock g ⌝ }
+{
+    (g.b - 16) / 4
+}
+
 // m, the map blocks of each volume.
 pub fn map_blocks(g: Geometry) -> usize
     requires { ⌜ Allowed g ⌝ }
     ensures { λ r. ⌜ r ≡ mapBlocks g ⌝ }
 {
-    let e = (g.b - 16) / 4;
+    let e = entries_per_block(g);
     (g.p + (e - 1)) / e
 }
 
@@ -77,7 +86,7 @@ pub fn map_start(g: Geometry, volume: usize) -> usize
     requires { ⌜ Allowed g × (volume ≤ 14) ⌝ }
     ensures { λ r. ⌜ r ≡ mapStart g volume ⌝ }
 {
-    g.b * (1 + volume * (1 + map_blocks(g)) + 1)
+    header_start(g, volume) + g.b
 }
 
 // Where a slice begins.

@@ -9,10 +9,10 @@ use borrow.Author.Needs.{needs}
 use lib.ListN.{length}
 use Rattle.refusals.specs.Numbers.{answerNumber}
 use Rattle.model.specs.declared.Geometry.{Geometry}
-use Rattle.model.specs.Geometry.{Allowed, perBlock, numberAt}
+use Rattle.model.specs.Geometry.{Allowed, perBlock, mapBlocks, numberAt}
 use Rattle.model.specs.Opening.{storedEntry, load}
 use Rattle.tables.specs.Settled.{Settled}
-use Rattle.model.proofs.Bounds.{b-bounds, mapBlocks-small, mapBlock-lt}
+use Rattle.model.proofs.Bounds.{mapBlocks-small, perBlock-least, mapBlock-lt}
 use Rattle.opening.proofs.Refusals.{answer-refused, answer-served}
 use Rattle.opening.proofs.Loads.{settled-tables, settled-spoilt, tables-settled, spoilt-settled, settled-by}
 use Rattle.opening.proofs.Loads.{andThen, andThen-tables, andThen-spoilt, load-done, load-run, load-cong}
@@ -43,42 +43,65 @@ row-fits g v l = omega (arith, mul-le-mul {n₁ = v + 1} {m₁ = g .p} {n₂ = 1
 abbrev from : (g : Geometry) → (key header : List ℕ) → ℕ → ℕ
 from g key header n = storedEntry g key header (n % g .p)
 
--- What a turn loaded, in the volume's own terms.
+-- ---- a turn
+
+module _ (c : tie.In-loop Inv-loop μ-loop) where
+  abbrev sized : tie.After-entries-per-block Inv-loop μ-loop
+  sized = c .before .before
+
+  abbrev start : tie.Start Inv-loop μ-loop
+  start = sized .before .before .before .before .before
+
+  abbrev taken : c .before .loop .done < start .args .g .p
+  taken = c .loop-test .taken
+
+  -- It begins with the first entry of block t, which is one of the volume's.
+  aligned : c .before .loop .done ≡ c .before .loop .t * perBlock (start .args .g)
+  aligned = c .before .loop .inv .1 taken ∙ ap (λ (n : ℕ). c .before .loop .t * n) (sized .entries-per-block .ensures)
+
+  block-below : c .before .loop .t < mapBlocks (start .args .g)
+  block-below = mapBlock-lt (start .args .g) (start .pre .0) (c .before .loop .t) (omega (arith, aligned))
+
+-- It loads no more entries than one block has.
+count-most : (c : tie.After-least Inv-loop μ-loop) → c .least .result ≤ perBlock (start (c .before) .args .g)
+count-most c = omega (arith, c .least .ensures .1, sized (c .before) .entries-per-block .ensures)
+
+-- What it loaded, in the volume's own terms.
 settled : (c : tie.After-load-block Inv-loop μ-loop)
     → let counted = c .before .before .before in
     let l = counted .before .before .loop in
-    let a = counted .before .before .before .before .before .before .before .before .args in
-    Settled (load (a .g .p) (from (a .g) (a .key .now) (a .header .now)) (counted .least .result) (a .volume * a .g .p + l .done) (l .maps) (l .owners))
+    let a = start (counted .before) .args in
+    let f = from (a .g) (a .key .now) (a .header .now) in
+    Settled (load (a .g .p) f (counted .least .result) (a .volume * a .g .p + l .done) (l .maps) (l .owners))
     (answerNumber (c .load-block .result)) (c .load-block .last .1 .1 .1 .1 .0) (c .load-block .last .1 .1 .1 .1 .1 .0)
 settled c =
     let counted = c .before .before .before in
-    let l = counted .before .before .loop in
-    let start = counted .before .before .before .before .before .before .before .before in
-    let a = start .args in
+    let tested = counted .before in
+    let l = tested .before .loop in
+    let s = start tested in
+    let a = s .args in
     let g = a .g in
     let key = a .key .now in
     let header = a .header .now in
     let count = counted .least .result in
-    let least = counted .least .ensures in
-    let taken = counted .before .loop-test .taken in
     let n = a .volume * g .p + l .done in
-    let d : l .done ≡ l .t * perBlock g = l .inv .1 taken in
     let block : ℕ → ℕ = λ i. numberAt (4 * (i - n)) (blockText g key header (l .t)) in
     settled-by
-    (ap (λ (p : ℕ). load p block count n (l .maps) (l .owners)) (l .inv .3 ∙ start .pre .3)
+    (ap (λ (p : ℕ). load p block count n (l .maps) (l .owners)) (l .inv .3 ∙ s .pre .3)
     ∙ load-cong (g .p) block (from g key header) count n (l .maps) (l .owners)
     (λ i u w.
-    let k : i ≡ a .volume * g .p + (l .t * perBlock g + (i - n)) = omega (arith, d, u) in
+    let k : i ≡ a .volume * g .p + (l .t * perBlock g + (i - n)) = omega (arith, aligned tested, u) in
     sym
     (ap (from g key header) k
-    ∙ storedEntry-block g key header (a .volume) (l .t) (i - n) (omega (arith, u, w, least .1)) (omega (arith, d, u, w, least .0, taken)))))
+    ∙ storedEntry-block g key header (a .volume) (l .t) (i - n) (omega (arith, u, w, count-most counted))
+    (omega (arith, aligned tested, u, w, counted .least .ensures .0, taken tested)))))
     _ _ _ (c .load-block .ensures)
 
 -- How the run goes on.
 next : (c : tie.After-load-block Inv-loop μ-loop)
     → let counted = c .before .before .before in
     let l = counted .before .before .loop in
-    let a = counted .before .before .before .before .before .before .before .before .args in
+    let a = start (counted .before) .args in
     let f = from (a .g) (a .key .now) (a .header .now) in
     let n = a .volume * a .g .p + l .done in
     let count = counted .least .result in
@@ -86,18 +109,18 @@ next : (c : tie.After-load-block Inv-loop μ-loop)
     ≡ andThen (load (a .g .p) f count n (l .maps) (l .owners)) (load (a .g .p) f (a .g .p - (l .done + count)) (n + count))
 next c =
     let counted = c .before .before .before in
-    let l = counted .before .before .loop in
-    let a = counted .before .before .before .before .before .before .before .before .args in
+    let tested = counted .before in
+    let l = tested .before .loop in
+    let a = start tested .args in
     let f = from (a .g) (a .key .now) (a .header .now) in
     let n = a .volume * a .g .p + l .done in
     let count = counted .least .result in
-    let k : a .g .p - l .done ≡ count + (a .g .p - (l .done + count)) = omega (arith, counted .least .ensures .0, counted .before .loop-test .taken) in
+    let k : a .g .p - l .done ≡ count + (a .g .p - (l .done + count)) = omega (arith, counted .least .ensures .0, taken tested) in
     l .inv .4
     ∙ ap (λ (j : ℕ). load (a .g .p) f j n (l .maps) (l .owners)) k
     ∙ load-run (a .g .p) f count (a .g .p - (l .done + count)) n (l .maps) (l .owners)
 
-sub-c : tie.Need-sub-c Inv-loop μ-loop
-sub-c c = let s = c .before .before .before .before .before in omega (arith, b-bounds (s .args .g) (s .pre .0))
+-- ---- the needs
 
 mul-start : tie.Need-mul-start Inv-loop μ-loop
 mul-start c = let s = c .before .before .before .before .before in omega (arith, rows-small (s .args .g) (s .pre .0) (s .args .volume) (s .pre .4))
@@ -117,25 +140,22 @@ loop-holds c =
 add-load-block : tie.Need-add-load-block Inv-loop μ-loop
 add-load-block c =
     let tested = c .before .before .before in
-    let s = tested .before .before .before .before .before .before .before in
-    omega (arith, rows-small (s .args .g) (s .pre .0) (s .args .volume) (s .pre .4), tested .loop-test .taken, s .pre .0 .slices-most)
+    let s = start tested in
+    omega (arith, rows-small (s .args .g) (s .pre .0) (s .args .volume) (s .pre .4), taken tested, s .pre .0 .slices-most)
 
 load-block-requires : tie.Need-load-block-requires Inv-loop μ-loop
 load-block-requires c κs =
     let counted = c .before .before in
     let tested = counted .before in
-    let looped = tested .before in
-    let s = looped .before .before .before .before .before .before in
-    let l = looped .loop in
-    let least = counted .least .ensures in
-    let taken = tested .loop-test .taken in (
+    let s = start tested in
+    let l = tested .before .loop in (
       s .pre .0,
       s .pre .1,
       omega (arith, l .inv .2, l .inv .3, s .pre .2, s .pre .3),
       omega (arith, l .inv .3, s .pre .3, s .pre .0 .slices-most),
-      omega (arith, row-fits (s .args .g) (s .args .volume) (s .pre .4), least .0, taken, l .inv .2, s .pre .2),
-      least .1,
-      mapBlock-lt (s .args .g) (s .pre .0) (l .t) (omega (arith, l .inv .1 taken, taken)),
+      omega (arith, row-fits (s .args .g) (s .args .volume) (s .pre .4), counted .least .ensures .0, taken tested, l .inv .2, s .pre .2),
+      count-most counted,
+      block-below tested,
       s .pre .5,
     )
 
@@ -145,40 +165,37 @@ returns c =
     let h = answer-refused (c .enum-told .given .1) in
     spoilt-settled _ _ _ (next turn ∙ andThen-spoilt _ (settled-spoilt _ _ _ _ (settled turn) h)) h
 
+-- What a turn that was served has loaded.
+abbrev loaded : tie.After-enum-told2 Inv-loop μ-loop → tie.After-load-block Inv-loop μ-loop
+loaded c = c .before .before .before .before .before .before
+
 add-t : tie.Need-add-t Inv-loop μ-loop
 add-t c =
-    let tested = c .before .before .before .before .before .before .before .before .before .before in
-    let looped = tested .before in
-    let s = looped .before .before .before .before .before .before in
-    let l = looped .loop in
-    let taken = tested .loop-test .taken in
-    let g = s .args .g in
-    omega (arith, mapBlock-lt g (s .pre .0) (l .t) (omega (arith, l .inv .1 taken, taken)), mapBlocks-small g (s .pre .0))
+    let tested = loaded c .before .before .before .before in
+    let s = start tested in
+    omega (arith, block-below tested, mapBlocks-small (s .args .g) (s .pre .0))
 
 loop-less : tie.Need-loop-less Inv-loop μ-loop
 loop-less c =
-    let counted = c .before .before .before .before .before .before .before .before .before in
+    let counted = loaded c .before .before .before in
     let tested = counted .before in
-    let s = tested .before .before .before .before .before .before .before in
+    let s = start tested in
     let least = counted .least .ensures in
-    let taken = tested .loop-test .taken in
-    omega (arith, least .0, least .3 (omega (arith, taken)) (omega (arith, b-bounds (s .args .g) (s .pre .0))), taken)
+    let one = perBlock-least (s .args .g) (s .pre .0) in
+    omega (arith, least .0, least .3 (omega (arith, taken tested)) (omega (arith, one, sized tested .entries-per-block .ensures)), taken tested)
 
 loop-again : tie.Need-loop-again Inv-loop μ-loop
 loop-again c =
-    let turn = c .before .before .before .before .before .before in
+    let turn = loaded c in
     let counted = turn .before .before .before in
     let tested = counted .before in
-    let looped = tested .before in
-    let start = looped .before .before .before .before .before .before in
-    let l = looped .loop in
-    let a = start .args in
+    let l = tested .before .loop in
+    let a = start tested .args in
     let least = counted .least .ensures in
     let count = counted .least .result in
-    let taken = tested .loop-test .taken in
     let left = turn .load-block .last .1 .1 .1 .1 in (
-      omega (arith, least .0, taken),
-      λ h. omega (arith, least .2 (omega (arith, h)), l .inv .1 taken),
+      omega (arith, least .0, taken tested),
+      λ h. omega (arith, least .2 (omega (arith, h)), l .inv .1 (taken tested)),
       turn .load-block .kept .1 .1 .1 .1 .0 ∙ l .inv .2,
       turn .load-block .kept .1 .1 .1 .1 .1 .0 ∙ l .inv .3,
       next turn
@@ -190,7 +207,8 @@ loop-again c =
 returns-2 : tie.Need-returns-2 Inv-loop μ-loop
 returns-2 c =
     let l = c .before .loop in
-    let a = c .before .before .before .before .before .before .before .args in
+    let sizing = c .before .before in
+    let a = sizing .before .before .before .before .before .args in
     tables-settled (l .inv .4 ∙ load-done _ _ (a .g .p - l .done) (a .volume * a .g .p + l .done) (l .maps) (l .owners) (omega arith))
 
 pub load-volume-spec : {M : Type 1} → statement M
@@ -199,7 +217,7 @@ load-volume-spec =
     (tie.spec
     Inv-loop
     μ-loop
-    sub-c
+    (λ c κs. search needs)
     mul-start
     loop-holds
     (λ c. search needs)
