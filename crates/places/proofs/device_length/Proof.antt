@@ -22,7 +22,8 @@ add-result-2 c =
 mul-result-2 : tie.Need-mul-result-2
 mul-result-2 c =
     let start = c .before .before .before .before in
-    rw (c .before .before .before .header-blocks .ensures) (omega (arith, bytes-small (start .args .g) (start .pre) (start .args .g .p) (omega arith)))
+    let g = start .args .g in
+    rw (c .before .before .before .header-blocks .ensures) (omega (arith, bytes-small g (start .pre) (g .p) (omega arith)))
 
 returns : tie.Need-returns
 unfolding deviceLength

@@ -17,7 +17,8 @@ add-result-2 : tie.Need-add-result-2
 add-result-2 c =
     let start = c .before .before in
     let g = start .args .g in
-    omega (arith, headerBlocks-small g (start .pre .0), slices-small g (start .pre .0) (start .args .slice) (omega arith), c .before .header-blocks .ensures)
+    let slices = slices-small g (start .pre .0) (start .args .slice) (omega arith) in
+    omega (arith, headerBlocks-small g (start .pre .0), slices, c .before .header-blocks .ensures)
 
 mul-result-2 : tie.Need-mul-result-2
 mul-result-2 c =

@@ -11,9 +11,10 @@ use Rattle.places.proofs.store_ctr.Tie as tie
 
 returns : tie.Need-returns
 returns c =
-    let a = c .before .before .before .before .before .before .before .before .args in
+    let written = c .before .before in
+    let a = written .before .before .before .before .before .before .args in
     let bytes = ctr (a .key .now) (a .iv .now) (a .text .now) in
-    rw (c .before .before .ctr-into .ensures)
+    rw (written .ctr-into .ensures)
     (overlay-lent (a .at) (a .at + length (a .text .now)) (a .device .now) bytes
     (ap (λ (n : ℕ). a .at + n) (sym (ctr-length (a .key .now) (a .iv .now) (a .text .now)))) (search needs))
 

@@ -28,9 +28,10 @@ store-ctr-requires c κs =
 
 returns : tie.Need-returns
 returns c =
-    let start = c .before .before .before .before .before .before .before .before in
+    let written = c .before .before in
+    let start = written .before .before .before .before .before .before in
     let a = start .args in
-    rw (c .before .before .store-ctr .ensures)
+    rw (written .store-ctr .ensures)
     (ap (λ (t : List ℕ). overlay (a .device .now) (a .at) (ctr (a .key .now) (a .iv .now) t)) (take-replicate (a .b) 4096 0 (start .pre .1 .1 .0)))
 
 pub store-zeros-spec : {M : Type 1} → statement M
