@@ -42,7 +42,8 @@ module _ (g : Geometry) (header : ℕ → List ℕ) where
     pub remaining-next : number ≡ 0 → remaining g header n vmk above ≡ remaining g header (n - 1) (vmkBelow text) (vekOf text ++ above)
     remaining-next z = next ∙ link-goes-on g (openHeader vmk (n - 1) (header (n - 1))) number text onward h z
 
-  pub remaining-first : (k : ℕ) (vmk s : List ℕ) (a : ℕ) → chain g header k vmk [] ≡ remaining g header (k + 1) vmk (part a (32 * (k + 1 - (k + 1))) s)
+  pub remaining-first : (k : ℕ) (vmk s : List ℕ) (a : ℕ)
+      → chain g header k vmk [] ≡ remaining g header (k + 1) vmk (part a (32 * (k + 1 - (k + 1))) s)
   unfolding remaining
   remaining-first k vmk s a =
       let z : 32 * (k + 1 - (k + 1)) ≡ 0 = omega arith in

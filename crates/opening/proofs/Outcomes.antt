@@ -9,7 +9,8 @@ use Rattle.gcm.specs.Gcm.{Opened, Text, WrongTag}
 use Rattle.model.specs.declared.Geometry.{Geometry}
 use Rattle.model.specs.declared.Session.{Session}
 use Rattle.model.specs.Geometry.{cellOf, headerOf}
-use Rattle.model.specs.Opening.{Cell, At, NoCell, openCell, orNext, firstCell, Chain, Keys, Broken, chain, Loaded, Tables, Spoilt, loadMaps, openRefusal}
+use Rattle.model.specs.Opening.{Cell, At, NoCell, openCell, orNext, firstCell, Chain, Keys, Broken, chain}
+use Rattle.model.specs.Opening.{Loaded, Tables, Spoilt, loadMaps, openRefusal}
 use Rattle.model.specs.Opening.{OpenResult, OpenTo, NotOpened, OpenOutcome, noSession, untouched, wiped, withTables, withKeys, withCell, openModel}
 use Rattle.model.specs.Answers.{OpenLeaves}
 use Rattle.model.proofs.Order.{unless-refused}
@@ -33,7 +34,8 @@ module _ (key : List ℕ) (cell : ℕ → List ℕ) where
   firstCell-below zero i k vmk e = absurd (let z : _≡_ {A = ℕ} 0 1 = cc in omega arith)
   firstCell-below (suc left) i k vmk e = by-cell (openCell key i (cell i)) e (firstCell-below left (suc i) k vmk)
     where
-      by-cell : (o : Opened) → orNext o i (firstCell key cell left (suc i)) ≡ At k vmk → (firstCell key cell left (suc i) ≡ At k vmk → k < suc i + left)
+      by-cell : (o : Opened) → orNext o i (firstCell key cell left (suc i)) ≡ At k vmk
+          → (firstCell key cell left (suc i) ≡ At k vmk → k < suc i + left)
           → k < i + suc left
       by-cell (Text v) q ih = let same : i ≡ k = cc in omega arith
       by-cell WrongTag q ih = omega (arith, ih q)
@@ -66,7 +68,8 @@ module _ (g : Geometry) (header : ℕ → List ℕ) where
   unfolding withCell
   withCell-none e = rw e
 
-  module _ {o : Cell} (k : ℕ) (vmk : List ℕ) (at : o ≡ At k vmk) (n : ℕ) (keys : List ℕ) (opened : ChainOpened (chain g header k vmk []) k n keys) where
+  module _ {o : Cell} (k : ℕ) (vmk : List ℕ) (at : o ≡ At k vmk) (n : ℕ) (keys : List ℕ)
+      (opened : ChainOpened (chain g header k vmk []) k n keys) where
     pub withCell-broken : (n ≡ 0 → ⊥) → withCell g header o ≡ wiped g n
     unfolding withCell
     withCell-broken h = rw at (withKeys-broken (chain g header k vmk []) k n keys opened h)

@@ -17,6 +17,11 @@ use Rattle.opening.proofs.Entries.{mapBlock-fits}
 use Rattle.opening.proofs.load_block.Statement.{statement}
 use Rattle.opening.proofs.load_block.Tie as tie
 
+-- ---- places of the code, and what is known there
+
+abbrev start : tie.After-struct-known2 → tie.Start
+start c = c .before .before .before .before .before .before
+
 -- The block lies within the header.
 inside : (s : tie.Start) → let a = s .args in a .g .b * (1 + a .t) + a .g .b ≤ length (a .header .now)
 inside s = omega (arith, mapBlock-fits (s .args .g) (s .pre .0) (s .args .t) (s .pre .6), s .pre .7)
@@ -25,37 +30,54 @@ inside s = omega (arith, mapBlock-fits (s .args .g) (s .pre .0) (s .args .t) (s 
 local-length : (s : tie.Start) → length (take (s .args .g .b - 16) (replicate {A = ℕ} 4096 0)) ≡ s .args .g .b - 16
 local-length s = length-take-le (s .args .g .b - 16) (replicate 4096 0) (omega (arith, b-bounds (s .args .g) (s .pre .0)))
 
+module _ (c : tie.After-ctr-into) where
+  abbrev entered : tie.Start
+  entered = start (c .before .before .before .before .before)
+
+  abbrev text : List ℕ
+  text = c .ctr-into .last .1 .1 .1 .0
+
+  abbrev size : ℕ
+  size = entered .args .g .b - 16
+
+  text-length : length text ≡ size
+  text-length = c .ctr-into .kept .1 .1 .1 .0 ∙ local-length entered
+
+  -- The deciphered bytes are the first of the local's.
+  deciphered : take size (text ++ drop size (replicate {A = ℕ} 4096 0)) ≡ text
+  deciphered = take-at text _ size text-length
+
+-- ---- the needs
+
 add-from : tie.Need-add-from
 add-from c = let s = c .before .before .before .before .before in omega (arith, s .pre .6, mapBlocks-small (s .args .g) (s .pre .0))
 
 mul-from : tie.Need-mul-from
-mul-from c = let s = c .before .before .before .before .before .before in omega (arith, inside s, s .good .0)
+mul-from c = let s = start c in omega (arith, inside s, s .good .0)
 
 add-at : tie.Need-add-at
-add-at c = let s = c .before .before .before .before .before .before in omega (arith, inside s, s .good .0, b-bounds (s .args .g) (s .pre .0))
+add-at c = let s = start c in omega (arith, inside s, s .good .0, b-bounds (s .args .g) (s .pre .0))
 
 add-end : tie.Need-add-end
-add-end c = let s = c .before .before .before .before .before .before .before in omega (arith, inside s, s .good .0)
+add-end c = let s = start (c .before) in omega (arith, inside s, s .good .0)
 
 part-ctr-into-end : tie.Need-part-ctr-into-end
-part-ctr-into-end c = let s = c .before .before .before .before .before .before .before in omega (arith, inside s, b-bounds (s .args .g) (s .pre .0))
+part-ctr-into-end c = let s = start (c .before) in omega (arith, inside s, b-bounds (s .args .g) (s .pre .0))
 
 part-ctr-into-end-2 : tie.Need-part-ctr-into-end-2
-part-ctr-into-end-2 c = let s = c .before .before .before .before .before .before .before .before in omega (arith, inside s)
+part-ctr-into-end-2 c = omega (arith, inside (start (c .before .before)))
 
 array-borrow-prefix-text : tie.Need-array-borrow-prefix-text
 array-borrow-prefix-text c =
-    let s = c .before .before .before .before .before .before .before .before .before in
+    let s = start (c .before .before .before) in
     omega (arith, b-bounds (s .args .g) (s .pre .0))
 
 slice-aggregate-ctr-into : tie.Need-slice-aggregate-ctr-into
-slice-aggregate-ctr-into c =
-    let start = c .before .before .before .before .before .before .before .before .before .before in
-    sym (local-length start)
+slice-aggregate-ctr-into c = sym (local-length (start (c .before .before .before .before)))
 
 ctr-into-requires : tie.Need-ctr-into-requires
 ctr-into-requires c κs =
-    let s = c .before .before .before .before .before .before .before .before .before .before in
+    let s = start (c .before .before .before .before) in
     let a = s .args in
     let header = a .header .now in
     let b = b-bounds (a .g) (s .pre .0) in
@@ -70,49 +92,40 @@ ctr-into-requires c κs =
       ),
     )
 
--- The deciphered bytes are the first of the local's.
-deciphered : (c : tie.After-ctr-into) → let s = c .before .before .before .before .before .before .before .before .before .before .before in
-    take (s .args .g .b - 16) (c .ctr-into .last .1 .1 .1 .0 ++ drop (s .args .g .b - 16) (replicate {A = ℕ} 4096 0)) ≡ c .ctr-into .last .1 .1 .1 .0
-deciphered c =
-    let s = c .before .before .before .before .before .before .before .before .before .before .before in
-    take-at (c .ctr-into .last .1 .1 .1 .0) _ (s .args .g .b - 16) (c .ctr-into .kept .1 .1 .1 .0 ∙ local-length s)
-
 array-share-prefix-text : tie.Need-array-share-prefix-text
 array-share-prefix-text c =
-    let enciphered = c .before .before .before in
-    let s = enciphered .before .before .before .before .before .before .before .before .before .before .before in
-    let text = enciphered .ctr-into in
-    omega (arith, length-append (text .last .1 .1 .1 .0) (drop (s .args .g .b - 16) (replicate {A = ℕ} 4096 0)), text .kept .1 .1 .1 .0, local-length s)
+    let d = c .before .before .before in
+    omega (arith, length-append (text d) (drop (size d) (replicate {A = ℕ} 4096 0)), text-length d, local-length (entered d))
 
 slice-aggregate-load-entries : tie.Need-slice-aggregate-load-entries
-slice-aggregate-load-entries c =
-    let text = c .before .before .before .before in
-    let start = text .before .before .before .before .before .before .before .before .before .before .before in
-    sym (ap length (deciphered text) ∙ text .ctr-into .kept .1 .1 .1 .0 ∙ local-length start)
+slice-aggregate-load-entries c = let d = c .before .before .before .before in sym (ap length (deciphered d) ∙ text-length d)
 
 load-entries-requires : tie.Need-load-entries-requires
 load-entries-requires c κs =
-    let text = c .before .before .before .before in
-    let s = text .before .before .before .before .before .before .before .before .before .before .before in
-    let a = s .args in
-    let long = ap length (deciphered text) ∙ text .ctr-into .kept .1 .1 .1 .0 ∙ local-length s in
-    (s .pre .2, s .pre .3, s .pre .4, subst⁻¹ (λ (n : ℕ). 4 * a .count ≤ n) long (omega (arith, s .pre .5)))
+    let d = c .before .before .before .before in
+    let s = entered d in (
+      s .pre .2,
+      s .pre .3,
+      s .pre .4,
+      subst⁻¹ (λ (n : ℕ). 4 * s .args .count ≤ n) (ap length (deciphered d) ∙ text-length d) (omega (arith, s .pre .5)),
+    )
 
 returns : tie.Need-returns
 returns c =
     let loading = c .before .before .before .before in
-    let text = loading .before .before .before .before .before in
-    let s = text .before .before .before .before .before .before .before .before .before .before .before in
+    let d = loading .before .before .before .before .before in
+    let s = entered d in
     let a = s .args in
     let header = a .header .now in
     let from = a .g .b * (1 + a .t) in
     let end : from + a .g .b - (from + 16) ≡ a .g .b - 16 = omega (arith, b-bounds (a .g) (s .pre .0)) in
     let entries =
-    deciphered text
-    ∙ text .ctr-into .ensures
+    deciphered d
+    ∙ d .ctr-into .ensures
     ∙ ap₂ (ctr (a .key .now)) (part-lent header from 16 refl) (ap (λ (n : ℕ). part (from + 16) n header) end) in
+    let p = length (a .owners .now) in
     settled-by
-    (ap (λ (t : List ℕ). load (length (a .owners .now)) (λ (i : ℕ). numberAt (4 * (i - a .n)) t) (a .count) (a .n) (a .maps .now) (a .owners .now)) entries)
+    (ap (λ (t : List ℕ). load p (λ (i : ℕ). numberAt (4 * (i - a .n)) t) (a .count) (a .n) (a .maps .now) (a .owners .now)) entries)
     _ _ _ (loading .load-entries .ensures)
 
 pub load-block-spec : {M : Type 1} → statement M

@@ -27,27 +27,35 @@ Inv-loop maps₀ owners₀ text n count e₀ maps owners e =
 abbrev μ-loop : tie.MeasureT-loop
 μ-loop maps₀ owners₀ text n count e₀ maps owners e = count - e
 
--- What a turn settled.
+-- ---- a turn
+
+module _ (c : tie.After-settle-one Inv-loop μ-loop) where
+  abbrev looped : tie.At-loop Inv-loop μ-loop
+  looped = c .before .before .before .before .before
+
+  abbrev start : tie.Start Inv-loop μ-loop
+  start = looped .before .before .before .before
+
+-- What it settled.
 settled : (c : tie.After-settle-one Inv-loop μ-loop)
-    → let l = c .before .before .before .before .before .loop in
-    let a = c .before .before .before .before .before .before .before .before .before .args in
+    → let l = looped c .loop in
+    let a = start c .args in
     let i = a .n + l .e in
     Settled (settle (length (a .owners .now)) (numberAt (4 * (i - a .n)) (a .text .now)) i (l .maps) (l .owners) Tables)
     (answerNumber (c .settle-one .result)) (c .settle-one .last .0) (c .settle-one .last .1 .0)
 settled c =
-    let read = c .before .before .before in
-    let l = read .before .before .loop in
-    let a = read .before .before .before .before .before .before .args in
+    let l = looped c .loop in
+    let a = start c .args in
     let k : l .e ≡ (a .n + l .e) - a .n = omega arith in
     settled-by
     (ap₂ (λ (p x : ℕ). settle p x (a .n + l .e) (l .maps) (l .owners) Tables) (l .inv .2)
-    (read .number-at .ensures ∙ ap (λ (e : ℕ). numberAt (4 * e) (a .text .now)) k))
+    (c .before .before .before .number-at .ensures ∙ ap (λ (e : ℕ). numberAt (4 * e) (a .text .now)) k))
     _ _ _ (c .settle-one .ensures)
 
 -- How the run goes on.
 next : (c : tie.After-settle-one Inv-loop μ-loop)
-    → let l = c .before .before .before .before .before .loop in
-    let a = c .before .before .before .before .before .before .before .before .before .args in
+    → let l = looped c .loop in
+    let a = start c .args in
     let p = length (a .owners .now) in
     let i = a .n + l .e in
     load p (λ (j : ℕ). numberAt (4 * (j - a .n)) (a .text .now)) (a .count) (a .n) (a .maps .now) (a .owners .now)
@@ -55,9 +63,11 @@ next : (c : tie.After-settle-one Inv-loop μ-loop)
     (load p (λ (j : ℕ). numberAt (4 * (j - a .n)) (a .text .now)) (a .count - (l .e + 1)) (i + 1))
 next c =
     let tested = c .before .before .before .before in
-    let l = tested .before .loop in
-    let a = tested .before .before .before .before .before .args in
+    let l = looped c .loop in
+    let a = start c .args in
     l .inv .3 ∙ load-next _ _ (a .count) (l .e) (a .n + l .e) (l .maps) (l .owners) (tested .loop-test .taken)
+
+-- ---- the needs
 
 loop-holds : tie.Need-loop-holds Inv-loop μ-loop
 loop-holds c =
@@ -75,10 +85,8 @@ returns c =
 loop-again : tie.Need-loop-again Inv-loop μ-loop
 loop-again c =
     let turn = c .before .before .before .before .before .before in
-    let looped = turn .before .before .before .before .before in
-    let start = looped .before .before .before .before in
-    let l = looped .loop in
-    let a = start .args in
+    let l = looped turn .loop in
+    let a = start turn .args in
     let f : ℕ → ℕ = λ i. numberAt (4 * (i - a .n)) (a .text .now) in (
       search needs,
       turn .settle-one .kept .0 ∙ l .inv .1,

@@ -2,7 +2,7 @@
 -- the tables so far. Assumes nothing.
 use mathlib.Core.Path.{_≡_, refl, sym, ap, ap₂, _∙_}
 use mathlib.Core.List.{List}
-use Prim.Native.Nat.{ℕ, _+_, _-_, _*_, _%_, _≤_}
+use Prim.Native.Nat.{ℕ, _+_, _-_, _*_, _%_, _≤_, _<_}
 use native.Mathlib.Nat.{zero-mul, mul-le-mul}
 use native.Mathlib.Omega.{arith}
 use borrow.Author.Needs.{needs}
@@ -31,71 +31,84 @@ Inv-loop device g keys k maps₀ owners₀ v₀ maps owners v =
 abbrev μ-loop : tie.MeasureT-loop
 μ-loop device g keys k maps₀ owners₀ v₀ maps owners v = (k + 1) - v
 
--- What a turn loaded, in the table's own terms.
+-- ---- a turn
+
+module _ (c : tie.After-header-start Inv-loop μ-loop) where
+  abbrev looped : tie.At-loop Inv-loop μ-loop
+  looped = c .before .before
+
+  abbrev start : tie.Start Inv-loop μ-loop
+  start = looped .before .before .before .before .before
+
+  -- It stands at one of the volumes 0 to k, whose header lies on the device.
+  taken : looped .loop .v < start .args .k + 1
+  taken = c .before .loop-test .taken
+
+  volume-most : looped .loop .v ≤ 14
+  volume-most = omega (arith, taken, start .pre .4)
+
+  begins : c .header-start .result + start .args .g .b * (1 + mapBlocks (start .args .g)) ≤ length (start .args .device .now)
+  begins =
+      omega (arith, header-fits (start .args .g) (start .pre .0) (looped .loop .v) volume-most, c .header-start .ensures, start .pre .1)
+
+abbrev placed : tie.After-load-volume Inv-loop μ-loop → tie.After-header-start Inv-loop μ-loop
+placed c = c .before .before .before .before .before
+
+-- What it loaded, in the table's own terms.
 settled : (c : tie.After-load-volume Inv-loop μ-loop)
-    → let l = c .before .before .before .before .before .before .before .loop in
-    let a = c .before .before .before .before .before .before .before .before .before .before .before .before .args in
-    Settled (load (a .g .p) (mapEntries (a .g) (headerOf (a .g) (a .device .now)) (a .keys .now)) (a .g .p) (l .v * a .g .p) (l .maps) (l .owners))
+    → let l = looped (placed c) .loop in
+    let a = start (placed c) .args in
+    let f = mapEntries (a .g) (headerOf (a .g) (a .device .now)) (a .keys .now) in
+    Settled (load (a .g .p) f (a .g .p) (l .v * a .g .p) (l .maps) (l .owners))
     (answerNumber (c .load-volume .result)) (c .load-volume .last .1 .1 .1 .1 .0) (c .load-volume .last .1 .1 .1 .1 .1 .0)
 settled c =
-    let placed = c .before .before .before .before .before in
-    let l = placed .before .before .loop in
-    let start = placed .before .before .before .before .before .before .before in
-    let a = start .args in
-    let g = a .g in
-    let device = a .device .now in
-    let keys = a .keys .now in
-    let s = placed .header-start .result in
-    let rest : List ℕ = take (length device - s) (drop s device) in
-    let lv : l .v ≤ 14 = omega (arith, placed .before .loop-test .taken, start .pre .4) in
+    let at = placed c in
+    let l = looped at .loop in
+    let s = start at in
+    let g = s .args .g in
+    let device = s .args .device .now in
+    let keys = s .args .keys .now in
+    let from = at .header-start .result in
+    let rest : List ℕ = take (length device - from) (drop from device) in
     settled-by
     (ap (λ (key : List ℕ). load (g .p) (λ (n : ℕ). storedEntry g key rest (n % g .p)) (g .p) (l .v * g .p) (l .maps) (l .owners))
     (part-lent keys (32 * l .v) 32 refl)
     ∙ load-cong (g .p) _ (mapEntries g (headerOf g device) keys) (g .p) (l .v * g .p) (l .maps) (l .owners)
-    (mapEntries-volume g (start .pre .0) device keys (l .v) lv (start .pre .1) (placed .header-start .ensures)))
+    (mapEntries-volume g (s .pre .0) device keys (l .v) (volume-most at) (s .pre .1) (at .header-start .ensures)))
     _ _ _ (c .load-volume .ensures)
 
 -- How the run goes on.
 next : (c : tie.After-load-volume Inv-loop μ-loop)
-    → let l = c .before .before .before .before .before .before .before .loop in
-    let a = c .before .before .before .before .before .before .before .before .before .before .before .before .args in
+    → let l = looped (placed c) .loop in
+    let a = start (placed c) .args in
     let p = a .g .p in
     let f = mapEntries (a .g) (headerOf (a .g) (a .device .now)) (a .keys .now) in
     load p f ((a .k + 1) * p) 0 (a .maps .now) (a .owners .now)
     ≡ andThen (load p f p (l .v * p) (l .maps) (l .owners)) (load p f ((a .k + 1) * p - (l .v + 1) * p) (l .v * p + p))
 next c =
-    let tested = c .before .before .before .before .before .before in
-    let l = tested .before .loop in
-    let a = tested .before .before .before .before .before .before .args in
+    let l = looped (placed c) .loop in
+    let a = start (placed c) .args in
     let p = a .g .p in
     let f = mapEntries (a .g) (headerOf (a .g) (a .device .now)) (a .keys .now) in
-    let w = mul-le-mul {n₁ = l .v + 1} {m₁ = p} {n₂ = a .k + 1} {m₂ = p} (omega (arith, tested .loop-test .taken)) (omega arith) in
+    let w = mul-le-mul {n₁ = l .v + 1} {m₁ = p} {n₂ = a .k + 1} {m₂ = p} (omega (arith, taken (placed c))) (omega arith) in
     let k : (a .k + 1) * p - l .v * p ≡ p + ((a .k + 1) * p - (l .v + 1) * p) = omega (arith, w) in
     l .inv .3
     ∙ ap (λ (j : ℕ). load p f j (l .v * p) (l .maps) (l .owners)) k
     ∙ load-run p f p ((a .k + 1) * p - (l .v + 1) * p) (l .v * p) (l .maps) (l .owners)
 
+-- ---- the needs
+
 loop-holds : tie.Need-loop-holds Inv-loop μ-loop
 loop-holds c =
     let a = c .before .before .before .before .args in
     let p = a .g .p in
+    let f = mapEntries (a .g) (headerOf (a .g) (a .device .now)) (a .keys .now) in
     let z : (a .k + 1) * p ≡ (a .k + 1) * p - 0 * p = omega arith in (
       omega arith,
       refl,
       refl,
-      ap₂ (λ (j k : ℕ). load p (mapEntries (a .g) (headerOf (a .g) (a .device .now)) (a .keys .now)) j k (a .maps .now) (a .owners .now)) z (sym (zero-mul p)),
+      ap₂ (λ (j k : ℕ). load p f j k (a .maps .now) (a .owners .now)) z (sym (zero-mul p)),
     )
-
--- The header lies on the device.
-begins : (c : tie.After-header-start Inv-loop μ-loop)
-    → let a = c .before .before .before .before .before .before .before .args in
-    c .header-start .result + a .g .b * (1 + mapBlocks (a .g)) ≤ length (a .device .now)
-begins c =
-    let tested = c .before in
-    let looped = tested .before in
-    let s = looped .before .before .before .before .before in
-    let below : looped .loop .v ≤ 14 = omega (arith, tested .loop-test .taken, s .pre .4) in
-    omega (arith, header-fits (s .args .g) (s .pre .0) (looped .loop .v) below, c .header-start .ensures, s .pre .1)
 
 sub-load-volume : tie.Need-sub-load-volume Inv-loop μ-loop
 sub-load-volume c = omega (arith, begins c)
@@ -105,22 +118,18 @@ part-load-volume-start c = omega (arith, begins c)
 
 load-volume-requires : tie.Need-load-volume-requires Inv-loop μ-loop
 load-volume-requires c κs =
-    let placed = c .before .before .before .before in
-    let tested = placed .before in
-    let looped = tested .before in
-    let s = looped .before .before .before .before .before in
-    let l = looped .loop in
+    let at = c .before .before .before .before in
+    let s = start at in
+    let l = looped at .loop in
     let device = s .args .device .now in
-    let keys = s .args .keys .now in
-    let at = placed .header-start .result in
-    let taken = tested .loop-test .taken in
-    let long = part-length device at (length device - at) (omega (arith, begins placed)) in (
+    let from = at .header-start .result in
+    let long = part-length device from (length device - from) (omega (arith, begins at)) in (
       s .pre .0,
-      part-lent-length keys (32 * l .v) 32 (omega (arith, taken, s .pre .4, s .pre .5)),
+      part-lent-length (s .args .keys .now) (32 * l .v) 32 (omega (arith, volume-most at, s .pre .5)),
       l .inv .1 ∙ s .pre .2,
       l .inv .2 ∙ s .pre .3,
-      omega (arith, taken, s .pre .4),
-      omega (arith, long, begins placed),
+      volume-most at,
+      omega (arith, long, begins at),
     )
 
 returns : tie.Need-returns Inv-loop μ-loop
@@ -132,16 +141,13 @@ returns c =
 loop-again : tie.Need-loop-again Inv-loop μ-loop
 loop-again c =
     let turn = c .before .before .before .before .before .before in
-    let tested = turn .before .before .before .before .before .before in
-    let looped = tested .before in
-    let start = looped .before .before .before .before .before in
-    let l = looped .loop in
-    let a = start .args in
+    let l = looped (placed turn) .loop in
+    let a = start (placed turn) .args in
     let p = a .g .p in
     let f = mapEntries (a .g) (headerOf (a .g) (a .device .now)) (a .keys .now) in
     let left = turn .load-volume .last .1 .1 .1 .1 in
     let k : l .v * p + p ≡ (l .v + 1) * p = omega arith in (
-      omega (arith, tested .loop-test .taken),
+      omega (arith, taken (placed turn)),
       turn .load-volume .kept .1 .1 .1 .1 .0 ∙ l .inv .1,
       turn .load-volume .kept .1 .1 .1 .1 .1 .0 ∙ l .inv .2,
       next turn

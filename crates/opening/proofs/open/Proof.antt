@@ -1,12 +1,12 @@
 -- `opening::open` meets its contract. Assumes nothing.
-use mathlib.Core.Path.{refl, sym, ap, _∙_}
+use mathlib.Core.Path.{_≡_, refl, sym, ap, _∙_}
 use Prim.Native.Nat.{ℕ}
 use borrow.Author.Needs.{needs}
 use lib.ListN.{length, replicate}
 use Rattle.refusals.specs.Numbers.{answerNumber}
 use Rattle.refusals.proofs.Positive.{answer-positive}
 use Rattle.model.specs.Session.{unmapped}
-use Rattle.model.specs.Opening.{NotOpened}
+use Rattle.model.specs.Opening.{openRefusal, NotOpened}
 use Rattle.model.specs.Answers.{openResult}
 use Rattle.model.proofs.Requests.{Handed, openRefusal-none}
 use Rattle.opening.proofs.Refusals.{answer-served}
@@ -14,19 +14,28 @@ use Rattle.opening.proofs.Outcomes.{openModel-refused, openModel-served
 use Rattle.opening.proofs.open.Statement.{statement}
 use Rattle.opening.proofs.open.Tie as tie
 
+abbrev start : tie.After-open-refusal → tie.Start
+start c = c .before .before .before .before .before .before
+
 -- Nothing was refused for what was handed in.
-handed : (c : tie.After-enum-told)
-    → let a = c .before .before .before .before .before .before .before .before .args in
-    Handed (a .g) (length (a .device .now)) (length (a .key .now)) (length (a .maps .now)) (length (a .owners .now)) (a .perm .now)
-handed c = openRefusal-none _ _ _ _ _ _ (sym (c .before .before .open-refusal .ensures) ∙ answer-served (c .enum-told .given .1))
+module _ (c : tie.After-enum-told) where
+  abbrev checked : tie.After-open-refusal
+  checked = c .before .before
+
+  none : let a = start checked .args in
+      openRefusal (a .g) (length (a .device .now)) (length (a .key .now)) (length (a .maps .now)) (length (a .owners .now)) (a .perm .now) ≡ 0
+  none = sym (checked .open-refusal .ensures) ∙ answer-served (c .enum-told .given .1)
+
+  handed : let a = start checked .args in
+      Handed (a .g) (length (a .device .now)) (length (a .key .now)) (length (a .maps .now)) (length (a .owners .now)) (a .perm .now)
+  handed = openRefusal-none _ _ _ _ _ _ none
 
 returns : tie.Need-returns
 returns c =
     let refusing = c .before .before in
-    let checked = refusing .before .before in
-    let start = checked .before .before .before .before .before .before in
-    let a = start .args in
-    let tested = checked .open-refusal in
+    let refusal = refusing .before .before in
+    let a = start refusal .args in
+    let tested = refusal .open-refusal in
     let bad = refusing .bad .given .1 in
     let maps = a .maps .now in
     let owners = a .owners .now in
@@ -53,14 +62,11 @@ open-volumes-requires c κs =
 returns-2 : tie.Need-returns-2
 returns-2 c =
     let opening = c .before .before .before .before in
-    let told = opening .before .before .before .before .before .before .before .before .before .before .before in
-    let checked = told .before .before in
-    let start = checked .before .before .before .before .before .before in
-    let a = start .args in
+    let clearing = opening .before .before .before .before .before in
+    let told = clearing .before .before .before .before .before .before in
+    let a = start (checked told) .args in
     leaves-by
-    (sym
-    (openModel-served (a .device .now) (a .g) (a .key .now) (a .maps .now) (a .owners .now) (a .perm .now)
-    (sym (checked .open-refusal .ensures) ∙ answer-served (told .enum-told .given .1))))
+    (sym (openModel-served (a .device .now) (a .g) (a .key .now) (a .maps .now) (a .owners .now) (a .perm .now) (none told)))
     _ _ _ _ (opening .open-volumes .ensures)
 
 pub open-spec : {M : Type 1} → statement M

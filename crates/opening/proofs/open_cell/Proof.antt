@@ -11,7 +11,8 @@ use Rattle.opening.proofs.open_cell.Tie as tie
 returns : tie.Need-returns
 returns c =
     let opened = c .before .before in
-    let a = opened .before .before .before .before .before .before .before .before .before .args in
+    let known = opened .before .before .before .before .before .before in
+    let a = known .before .before .before .args in
     let device = a .device .now in
     let start = 16 + 60 * a .i in
     let o = opened .open-into .ensures in

@@ -34,22 +34,53 @@ Inv-loop device g k vmk₀ keys₀ text₀ n₀ vmk keys text n =
 abbrev μ-loop : tie.MeasureT-loop
 μ-loop device g k vmk₀ keys₀ text₀ n₀ vmk keys text n = n
 
--- The header that a turn opened, in the device's own terms.
+-- ---- a turn
+
+module _ (c : tie.After-header-start Inv-loop μ-loop) where
+  abbrev looped : tie.At-loop Inv-loop μ-loop
+  looped = c .before .before
+
+  abbrev start : tie.Start Inv-loop μ-loop
+  start = looped .before .before .before .before
+
+  -- The header begins on the device.
+  begins : c .header-start .result + 100 ≤ length (start .args .device .now)
+  begins =
+      let l = looped .loop in
+      let g = start .args .g in
+      omega (
+        arith,
+        header-fits g (start .pre .0) (l .n - 1) (omega (arith, l .inv .0, start .pre .2)),
+        c .header-start .ensures,
+        start .pre .1,
+        b-bounds g (start .pre .0),
+        mul-le-mul-left {m = 1} {n = 1 + mapBlocks g} (g .b) (omega arith),
+      )
+
+abbrev placed : tie.After-open-header Inv-loop μ-loop → tie.After-header-start Inv-loop μ-loop
+placed c = c .before .before .before .before
+
+-- The header that it opened, in the device's own terms.
 opened : (c : tie.After-open-header Inv-loop μ-loop)
-    → let l = c .before .before .before .before .before .before .loop in
-    let a = c .before .before .before .before .before .before .before .before .before .before .args in
+    → let l = looped (placed c) .loop in
+    let a = start (placed c) .args in
     HeaderOpened (a .g) (openHeader (l .vmk) (l .n - 1) (headerOf (a .g) (a .device .now) (l .n - 1)))
     (answerNumber (c .open-header .result)) (c .open-header .last .1 .1 .1 .1 .0)
 opened c =
-    let placed = c .before .before .before .before in
-    let l = placed .before .before .loop in
-    let start = placed .before .before .before .before .before .before in
-    let a = start .args in
+    let at = placed c in
+    let l = looped at .loop in
+    let s = start at in
+    let a = s .args in
     let o = c .open-header in
     subst (λ (x : Opened). HeaderOpened (a .g) x (answerNumber (o .result)) (o .last .1 .1 .1 .1 .0))
-    (openHeader-longer (a .g) (start .pre .0) (a .device .now) (l .vmk) (l .n - 1) (omega (arith, l .inv .0, start .pre .2)) (start .pre .1)
-    (placed .header-start .ensures))
+    (openHeader-longer (a .g) (s .pre .0) (a .device .now) (l .vmk) (l .n - 1) (omega (arith, l .inv .0, s .pre .2)) (s .pre .1)
+    (at .header-start .ensures))
     (o .ensures)
+
+text-length : (c : tie.After-open-header Inv-loop μ-loop) → length (c .open-header .last .1 .1 .1 .1 .0) ≡ 72
+text-length c = c .open-header .kept .1 .1 .1 .1 .0 ∙ looped (placed c) .loop .inv .3
+
+-- ---- the needs
 
 loop-holds : tie.Need-loop-holds Inv-loop μ-loop
 loop-holds c =
@@ -64,22 +95,6 @@ loop-holds c =
       remaining-first (a .g) (headerOf (a .g) (a .device .now)) (a .k) (a .vmk .now) (a .keys .now) (32 * (a .k + 1)),
     )
 
--- The header begins on the device.
-begins : (c : tie.After-header-start Inv-loop μ-loop)
-    → let a = c .before .before .before .before .before .before .args in c .header-start .result + 100 ≤ length (a .device .now)
-begins c =
-    let l = c .before .before .loop in
-    let s = c .before .before .before .before .before .before in
-    let g = s .args .g in
-    omega (
-      arith,
-      header-fits g (s .pre .0) (l .n - 1) (omega (arith, l .inv .0, s .pre .2)),
-      c .header-start .ensures,
-      s .pre .1,
-      b-bounds g (s .pre .0),
-      mul-le-mul-left {m = 1} {n = 1 + mapBlocks g} (g .b) (omega arith),
-    )
-
 sub-open-header : tie.Need-sub-open-header Inv-loop μ-loop
 sub-open-header c = omega (arith, begins c)
 
@@ -88,48 +103,41 @@ part-open-header-start c = omega (arith, begins c)
 
 open-header-requires : tie.Need-open-header-requires Inv-loop μ-loop
 open-header-requires c κs =
-    let p = c .before .before .before in
-    let looped = p .before .before in
-    let s = looped .before .before .before .before in
-    let l = looped .loop in
+    let at = c .before .before .before in
+    let s = start at in
+    let l = looped at .loop in
     let device = s .args .device .now in
-    let at = p .header-start .result in
-    let long = part-length device at (length device - at) (omega (arith, begins p)) in
-    (omega (arith, long, begins p), omega (arith, l .inv .0, s .pre .2), l .inv .1, l .inv .3)
+    let from = at .header-start .result in
+    let long = part-length device from (length device - from) (omega (arith, begins at)) in
+    (omega (arith, long, begins at), omega (arith, l .inv .0, s .pre .2), l .inv .1, l .inv .3)
 
 returns : tie.Need-returns Inv-loop μ-loop
 returns c =
     let turn = c .before .before .before in
-    let tested = turn .before .before .before .before .before in
-    let looped = tested .before in
-    let start = looped .before .before .before .before in
+    let at = placed turn in
     let h = answer-refused (c .enum-told .given .1) in
-    let l = looped .loop in
-    let a = start .args in
+    let l = looped at .loop in
+    let a = start at .args in
     chain-broken _ _ _
     (l .inv .5
-    ∙ remaining-broken (a .g) (headerOf (a .g) (a .device .now)) (l .n) (l .vmk) _ (tested .loop-test .taken) _
+    ∙ remaining-broken (a .g) (headerOf (a .g) (a .device .now)) (l .n) (l .vmk) _ (at .before .loop-test .taken) _
     (turn .open-header .last .1 .1 .1 .1 .0) (opened turn) h)
     h
 
 store-requires : tie.Need-store-requires Inv-loop μ-loop
 store-requires c κs =
-    let opening = c .before .before .before .before .before .before in
-    let tested = opening .before .before .before .before .before in
-    let looped = tested .before in
-    let start = looped .before .before .before .before in
-    let l = looped .loop in
-    let text = opening .open-header in
-    let vek = part-length (text .last .1 .1 .1 .1 .0) 0 32 (omega (arith, text .kept .1 .1 .1 .1 .0, l .inv .3)) in
-    omega (arith, vek, l .inv .0, l .inv .2, start .pre .2, tested .loop-test .taken)
+    let turn = c .before .before .before .before .before .before in
+    let at = placed turn in
+    let l = looped at .loop in
+    let vek = part-length (turn .open-header .last .1 .1 .1 .1 .0) 0 32 (omega (arith, text-length turn)) in
+    omega (arith, vek, l .inv .0, l .inv .2, start at .pre .2, at .before .loop-test .taken)
 
 copy-requires : tie.Need-copy-requires Inv-loop μ-loop
 copy-requires c κs =
-    let opening = c .before .before .before .before .before .before .before .before .before .before .before .before in
-    let looped = opening .before .before .before .before .before .before in
-    let l = looped .loop in
-    let text = opening .open-header in
-    simp (length-take, length-drop) (omega (arith, l .inv .1, text .kept .1 .1 .1 .1 .0, l .inv .3))
+    let storing = c .before .before .before .before .before in
+    let told = storing .before .before .before .before in
+    let turn = told .before .before .before in
+    simp (length-take, length-drop) (omega (arith, looped (placed turn) .loop .inv .1, text-length turn))
 
 loop-again : tie.Need-loop-again Inv-loop μ-loop
 loop-again c =
@@ -137,21 +145,19 @@ loop-again c =
     let storing = copying .before .before .before .before .before .before in
     let told = storing .before .before .before .before in
     let turn = told .before .before .before in
-    let tested = turn .before .before .before .before .before in
-    let looped = tested .before in
-    let s = looped .before .before .before .before in
-    let l = looped .loop in
+    let at = placed turn in
+    let l = looped at .loop in
+    let s = start at in
     let a = s .args in
     let header = headerOf (a .g) (a .device .now) in
-    let taken = tested .loop-test .taken in
+    let taken = at .before .loop-test .taken in
     let text = turn .open-header .last .1 .1 .1 .1 .0 in
-    let long : length text ≡ 72 = turn .open-header .kept .1 .1 .1 .1 .0 ∙ l .inv .3 in
-    let vek = part-length text 0 32 (omega (arith, long)) in
+    let vek = part-length text 0 32 (omega (arith, text-length turn)) in
     let stored = storing .store .ensures in (
       omega (arith, l .inv .0),
       copying .copy .kept .0 ∙ l .inv .1,
       storing .store .kept .0 ∙ l .inv .2,
-      long,
+      text-length turn,
       ap (part (32 * (a .k + 1)) (32 * (14 - a .k))) stored ∙ keys-above (l .keys) (vekOf text) (a .k) (l .n) vek taken (l .inv .0) (l .inv .4),
       l .inv .5
           ∙ remaining-next (a .g) header (l .n) (l .vmk) _ taken _ text (opened turn) (answer-served (told .enum-told2 .given .1))
@@ -162,9 +168,8 @@ loop-again c =
 
 same-length-2 : tie.Need-same-length-2 Inv-loop μ-loop
 same-length-2 c =
-    let looped = c .before .before .before .before .before .before .before .before .before in
-    let start = looped .before .before .before .before in
-    looped .loop .inv .2 ∙ sym (ap length (start .pre .4) ∙ noKeys-length)
+    let at = placed (c .before .before .before) in
+    looped at .loop .inv .2 ∙ sym (ap length (start at .pre .4) ∙ noKeys-length)
 
 same-length-4 : tie.Need-same-length-4 Inv-loop μ-loop
 same-length-4 c = c .before .loop .inv .2 ∙ sym (ap length (c .before .before .before .before .before .pre .4) ∙ noKeys-length)

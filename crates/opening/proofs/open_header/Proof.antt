@@ -10,15 +10,18 @@ use Rattle.opening.proofs.Headers.{openHeader-test, slices-differ, bloc
 use Rattle.opening.proofs.open_header.Statement.{statement}
 use Rattle.opening.proofs.open_header.Tie as tie
 
+abbrev start : tie.After-open-into → tie.Start
+start c = let known : tie.After-slice-known = c .before .before .before .before .before .before in known .before .before .before
+
 -- What is answered where the tag was right, by P and S.
 answered : (c : tie.Then1) (n : ℕ)
     → let opened = c .before .before .before in
-    let a = opened .before .before .before .before .before .before .before .before .before .args in
+    let a = start opened .args in
     let text = opened .open-into .last .1 .1 .1 .1 .1 .0 in
     n ≡ choose (differs (a .g) text) 8 0 → HeaderOpened (a .g) (openHeader (a .vmk .now) (a .i) (a .header .now)) n text
 answered c n =
     let opened = c .before .before .before in
-    let a = opened .before .before .before .before .before .before .before .before .before .args in
+    let a = start opened .args in
     let o = opened .open-into .ensures in
     header-text (a .g) (a .text .now) n (openHeader-test (a .vmk .now) (a .header .now) (a .i) (o .0) (c .if1 .taken)) (o .1)
 
@@ -27,7 +30,7 @@ returns c =
     let read = c .before .before in
     let right = read .before .before in
     let opened = right .before .before .before in
-    let a = opened .before .before .before .before .before .before .before .before .before .args in
+    let a = start opened .args in
     let blocks = numberAt 68 (opened .open-into .last .1 .1 .1 .1 .1 .0) in
     answered right 8 (slices-differ _ _ blocks (a .g .s) (λ e. c .if2 .taken (read .number-at .ensures ∙ e)))
 
@@ -50,7 +53,7 @@ returns-3 c =
 returns-4 : tie.Need-returns-4
 returns-4 c =
     let opened = c .before .before .before in
-    let a = opened .before .before .before .before .before .before .before .before .before .args in
+    let a = start opened .args in
     header-wrong (a .g) _ (openHeader-test (a .vmk .now) (a .header .now) (a .i) (opened .open-into .ensures .0) (c .if1 .left))
 
 pub open-header-spec : {M : Type 1} → statement M

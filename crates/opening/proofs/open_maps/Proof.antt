@@ -23,22 +23,25 @@ maps-length s = ap length (s .pre .3) ∙ length-replicate (15 * s .args .g .p) 
 owners-length : (s : tie.Start) → length (s .args .owners .now) ≡ s .args .g .p
 owners-length s = ap length (s .pre .4) ∙ length-replicate {A = ℕ} (s .args .g .p) 0
 
+abbrev start : tie.After-load-maps-arg2 → tie.Start
+start c = c .before .before .before .before .before .before
+
 -- What was loaded.
 settled : (c : tie.After-load-maps)
-    → let a = c .before .before .before .before .before .before .before .args in
+    → let a = start (c .before) .args in
     Settled (loadMaps (a .g) (headerOf (a .g) (a .device .now)) (a .t4) (a .k))
     (answerNumber (c .load-maps .result)) (c .load-maps .last .1 .1 .1 .1 .0) (c .load-maps .last .1 .1 .1 .1 .1 .0)
 settled c =
-    let start = c .before .before .before .before .before .before .before in
-    let a = start .args in
+    let s = start (c .before) in
+    let a = s .args in
     settled-by
     (ap₂ (λ (m o : List ℕ). load (a .g .p) (mapEntries (a .g) (headerOf (a .g) (a .device .now)) (a .t4)) ((a .k + 1) * a .g .p) 0 m o)
-    (start .pre .3) (start .pre .4))
+    (s .pre .3) (s .pre .4))
     _ _ _ (c .load-maps .ensures)
 
 load-maps-requires : tie.Need-load-maps-requires
 load-maps-requires c κs =
-    let s = c .before .before .before .before .before .before in
+    let s = start c in
     (s .pre .0, s .pre .1, maps-length s, owners-length s, s .pre .2, search needs)
 
 returns : tie.Need-returns
@@ -47,7 +50,7 @@ returns c =
     let unmapping = clearing .before .before .before .before in
     let refusing = unmapping .before .before .before in
     let loaded = refusing .before .before .before .before .before .before in
-    let s = loaded .before .before .before .before .before .before .before in
+    let s = start (loaded .before) in
     let a = s .args in
     let bad = refusing .bad .given .1 in
     leaves-refused (noMaps (a .g)) (noOwners (a .g)) (answerNumber (loaded .load-maps .result))
@@ -60,8 +63,7 @@ returns c =
 returns-2 : tie.Need-returns-2
 returns-2 c =
     let loaded = c .before .before .before .before .before .before in
-    let start = loaded .before .before .before .before .before .before .before in
-    let a = start .args in
+    let a = start (loaded .before) .args in
     leaves-opened (a .g) (a .k) (a .t4) (settled-tables _ _ _ _ (settled loaded) (answer-served (c .enum-told .given .1)))
 
 pub open-maps-spec : {M : Type 1} → statement M

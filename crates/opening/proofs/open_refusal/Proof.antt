@@ -1,18 +1,43 @@
 -- `opening::open_refusal` meets its contract: each return is the row that its tests pick. Assumes nothing.
-use mathlib.Core.Path.{sym, _∙_}
+use mathlib.Core.Path.{_≡_, sym, _∙_}
 use native.Mathlib.Omega.{arith}
 use borrow.Author.Needs.{needs}
 use Rattle.refusals.proofs.Positive.{answer-positive}
-use Rattle.model.specs.Geometry.{Allowed}
+use Rattle.model.specs.Geometry.{Allowed, deviceLength}
 use Rattle.model.proofs.Tests.{badGeometry-none}
 use Rattle.opening.proofs.Refusals.{answer-served}
-use Rattle.opening.proofs.Refusals.{wrong-geometry, wrong-device, wrong-key, wrong-maps, wrong-owners, wrong-places, slice-missing, none-missing}
+use Rattle.opening.proofs.Refusals.{wrong-geometry, wrong-device, wrong-key, wrong-maps, wrong-owners}
+use Rattle.opening.proofs.Refusals.{wrong-places, slice-missing, none-missing}
 use Rattle.opening.proofs.open_refusal.Statement.{statement}
 use Rattle.opening.proofs.open_refusal.Tie as tie
 
--- The geometry passed.
-allowed : (c : tie.After-enum-told2) → Allowed (c .before .before .before .before .args .g)
-allowed c = badGeometry-none 0 _ 0 (sym (c .before .before .check-geometry .ensures) ∙ answer-served (c .enum-told2 .given .1)) .0
+-- ---- what passed
+
+-- The geometry.
+module _ (c : tie.After-enum-told2) where
+  abbrev start : tie.Start
+  start = c .before .before .before .before
+
+  allowed : Allowed (start .args .g)
+  allowed = badGeometry-none 0 _ 0 (sym (c .before .before .check-geometry .ensures) ∙ answer-served (c .enum-told2 .given .1)) .0
+
+-- The device's length.
+module _ (c : tie.Else1) where
+  abbrev told : tie.After-enum-told2
+  told = c .before .before
+
+  long : start told .args .device ≡ deviceLength (start told .args .g)
+  long = c .if1 .left ∙ c .before .device-length .ensures
+
+-- The tables' lengths, after those of device and key.
+module _ (c : tie.Else4) where
+  abbrev maps : tie.Else3
+  maps = c .before .before
+
+  abbrev key : tie.Else2
+  key = maps .before .before
+
+-- ---- the rows
 
 returns : tie.Need-returns
 returns c =
@@ -23,72 +48,51 @@ returns-2 : tie.Need-returns-2
 returns-2 c = wrong-device _ _ _ _ _ _ (allowed (c .before .before)) (λ e. c .if1 .taken (e ∙ sym (c .before .device-length .ensures)))
 
 returns-3 : tie.Need-returns-3
-returns-3 c = wrong-key _ _ _ _ _ _ (allowed (c .before .before .before)) (c .before .if1 .left ∙ c .before .before .device-length .ensures) (c .if2 .taken)
+returns-3 c = let device = c .before in wrong-key _ _ _ _ _ _ (allowed (told device)) (long device) (c .if2 .taken)
 
 mul-if3 : tie.Need-mul-if3
-mul-if3 c = omega (arith, allowed (c .before .before .before .before) .slices-most)
+mul-if3 c = omega (arith, allowed (told (c .before .before)) .slices-most)
 
 returns-4 : tie.Need-returns-4
 returns-4 c =
-    let key = c .before .before in
-    let device = key .before in
-    let measured = device .before in
-    let told = measured .before in
-    wrong-maps _ _ _ _ _ _ (allowed told) (device .if1 .left ∙ measured .device-length .ensures) (key .if2 .left) (c .if3 .taken)
+    let keyed = c .before .before in
+    let device = keyed .before in
+    wrong-maps _ _ _ _ _ _ (allowed (told device)) (long device) (keyed .if2 .left) (c .if3 .taken)
 
 returns-5 : tie.Need-returns-5
 returns-5 c =
-    let maps = c .before .before in
-    let key = maps .before .before in
-    let device = key .before in
-    let measured = device .before in
-    let told = measured .before in
-    wrong-owners _ _ _ _ _ _ (allowed told) (device .if1 .left ∙ measured .device-length .ensures) (key .if2 .left)
-    (maps .if3 .left) (c .if4 .taken)
+    let mapped = c .before .before in
+    let keyed = mapped .before .before in
+    let device = keyed .before in
+    wrong-owners _ _ _ _ _ _ (allowed (told device)) (long device) (keyed .if2 .left) (mapped .if3 .left) (c .if4 .taken)
 
 returns-6 : tie.Need-returns-6
 returns-6 c =
     let owners = c .before .before in
-    let maps = owners .before .before in
-    let key = maps .before .before in
-    let device = key .before in
-    let measured = device .before in
-    let told = measured .before in
-    wrong-places _ _ _ _ _ _ (allowed told) (device .if1 .left ∙ measured .device-length .ensures) (key .if2 .left)
-    (maps .if3 .left) (owners .if4 .left) (c .if5 .taken)
+    let device = key owners .before in
+    wrong-places _ _ _ _ _ _ (allowed (told device)) (long device) (key owners .if2 .left) (maps owners .if3 .left)
+    (owners .if4 .left) (c .if5 .taken)
 
 is-missing-requires : tie.Need-is-missing-requires
-is-missing-requires c κs =
-    let told = c .before .before .before .before .before .before .before .before .before in
-    allowed told .slices-most
+is-missing-requires c κs = let owners = c .before .before in allowed (told (key owners .before)) .slices-most
 
 returns-7 : tie.Need-returns-7
 returns-7 c =
     let searched = c .before in
     let places = searched .before in
     let owners = places .before .before in
-    let maps = owners .before .before in
-    let key = maps .before .before in
-    let device = key .before in
-    let measured = device .before in
-    let told = measured .before in
-    slice-missing _ _ _ _ _ _ (allowed told) (device .if1 .left ∙ measured .device-length .ensures) (key .if2 .left)
-    (maps .if3 .left) (owners .if4 .left) (places .if5 .left)
-    (sym (searched .is-missing .ensures) ∙ c .if6 .taken)
+    let device = key owners .before in
+    slice-missing _ _ _ _ _ _ (allowed (told device)) (long device) (key owners .if2 .left) (maps owners .if3 .left)
+    (owners .if4 .left) (places .if5 .left) (sym (searched .is-missing .ensures) ∙ c .if6 .taken)
 
 returns-8 : tie.Need-returns-8
 returns-8 c =
     let searched = c .before in
     let places = searched .before in
     let owners = places .before .before in
-    let maps = owners .before .before in
-    let key = maps .before .before in
-    let device = key .before in
-    let measured = device .before in
-    let told = measured .before in
-    none-missing _ _ _ _ _ _ (allowed told) (device .if1 .left ∙ measured .device-length .ensures) (key .if2 .left)
-    (maps .if3 .left) (owners .if4 .left) (places .if5 .left)
-    (sym (searched .is-missing .ensures) ∙ c .if6 .left)
+    let device = key owners .before in
+    none-missing _ _ _ _ _ _ (allowed (told device)) (long device) (key owners .if2 .left) (maps owners .if3 .left)
+    (owners .if4 .left) (places .if5 .left) (sym (searched .is-missing .ensures) ∙ c .if6 .left)
 
 pub open-refusal-spec : {M : Type 1} → statement M
 open-refusal-spec =

@@ -9,24 +9,38 @@ use Rattle.model.specs.Opening.{At, firstCell, NotOpened, noMaps, noOwners}
 use Rattle.model.specs.Answers.{openResult}
 use Rattle.model.proofs.Bounds.{cell-fits}
 use Rattle.opening.proofs.Refusals.{answer-refused, answer-served}
-use Rattle.opening.proofs.Outcomes.{found-at, found-below, found-none, withCell-none, withCell-broken, withCell-served, leaves-refused, leaves-by}
+use Rattle.opening.proofs.Outcomes.{found-at, found-below, found-none, withCell-none, withCell-broken, withCell-served}
+use Rattle.opening.proofs.Outcomes.{leaves-refused, leaves-by}
 use Rattle.opening.proofs.open_volumes.Statement.{statement}
 use Rattle.opening.proofs.open_volumes.Tie as tie
 
--- The cell that was found.
-at : (c : tie.After-found)
-    → let a = c .before .before .before .before .before .before .before .before .before .args in
-    firstCell (a .key .now) (cellOf (a .device .now)) 15 0 ≡ At (c .found .given .0 .0) (c .before .before .before .first-cell .last .1 .1 .0)
-at c =
-    let f = c .before .before .before .first-cell in
-    let a = c .before .before .before .before .before .before .before .before .before .args in
-    found-at (a .key .now) (cellOf (a .device .now)) (f .result) (f .last .1 .1 .0) (f .ensures) (c .found .given .1)
+-- ---- places of the code, and what is known there
 
-volume-most : (c : tie.After-found) → c .found .given .0 .0 ≤ 14
-volume-most c =
-    let f = c .before .before .before .first-cell in
-    let a = c .before .before .before .before .before .before .before .before .before .args in
-    found-below (a .key .now) (cellOf (a .device .now)) (f .result) (f .last .1 .1 .0) (f .ensures) (c .found .given .1)
+abbrev start : tie.After-first-cell → tie.Start
+start c = c .before .before .before .before .before .before
+
+-- The cell that was found.
+module _ (c : tie.After-found) where
+  abbrev tried : tie.After-first-cell
+  tried = c .before .before .before
+
+  at : let a = start tried .args in
+      firstCell (a .key .now) (cellOf (a .device .now)) 15 0 ≡ At (c .found .given .0 .0) (tried .first-cell .last .1 .1 .0)
+  at =
+      let f = tried .first-cell in
+      let a = start tried .args in
+      found-at (a .key .now) (cellOf (a .device .now)) (f .result) (f .last .1 .1 .0) (f .ensures) (c .found .given .1)
+
+  volume-most : c .found .given .0 .0 ≤ 14
+  volume-most =
+      let f = tried .first-cell in
+      let a = start tried .args in
+      found-below (a .key .now) (cellOf (a .device .now)) (f .result) (f .last .1 .1 .0) (f .ensures) (c .found .given .1)
+
+abbrev found : tie.After-open-chain → tie.After-found
+found c = c .before .before .before .before .before
+
+-- ---- the needs
 
 first-cell-requires : tie.Need-first-cell-requires
 first-cell-requires c κs =
@@ -37,17 +51,17 @@ open-chain-requires : tie.Need-open-chain-requires
 open-chain-requires c κs =
     let empty = c .before .before in
     let finding = empty .before .before in
-    let cell = finding .before .before .before in
-    let s = cell .before .before .before .before .before .before in
+    let cell = tried finding in
+    let s = start cell in
     (s .pre .0, s .pre .1, volume-most finding, cell .first-cell .kept .1 .1 .0, empty .no-keys .ensures)
 
 returns : tie.Need-returns
 returns c =
     let refusing = c .before .before in
     let chained = refusing .before .before .before .before in
-    let finding = chained .before .before .before .before .before in
-    let cell = finding .before .before .before in
-    let s = cell .before .before .before .before .before .before in
+    let finding = found chained in
+    let cell = tried finding in
+    let s = start cell in
     let a = s .args in
     let keys = chained .open-chain in
     let number = answerNumber (keys .result) in
@@ -62,15 +76,15 @@ returns c =
 
 open-maps-requires : tie.Need-open-maps-requires
 open-maps-requires c κs =
-    let finding = c .before .before .before .before .before .before .before .before .before .before .before in
-    let s = finding .before .before .before .before .before .before .before .before .before in
-    (s .pre .0, s .pre .1, volume-most finding, s .pre .3, s .pre .4)
+    let chained = c .before .before .before .before .before .before in
+    let s = start (tried (found chained)) in
+    (s .pre .0, s .pre .1, volume-most (found chained), s .pre .3, s .pre .4)
 
 returns-2 : tie.Need-returns-2
 returns-2 c =
     let told = c .before in
     let cell = told .before .before .before in
-    let s = cell .before .before .before .before .before .before in
+    let s = start cell in
     let a = s .args in
     let f = cell .first-cell in
     let none = found-none (a .key .now) (cellOf (a .device .now)) (f .result) (f .last .1 .1 .0) (f .ensures) (told .enum-told .given .1) in
@@ -82,10 +96,9 @@ returns-3 c =
     let loading = c .before .before .before .before in
     let told = loading .before .before .before in
     let chained = told .before .before .before .before in
-    let finding = chained .before .before .before .before .before in
-    let cell = finding .before .before .before in
-    let start = cell .before .before .before .before .before .before in
-    let a = start .args in
+    let finding = found chained in
+    let cell = tried finding in
+    let a = start cell .args in
     let keys = chained .open-chain in
     let number = answerNumber (keys .result) in
     leaves-by
