@@ -11,28 +11,31 @@ use Rattle.model.proofs.Blocks.{deciphered-mapped, deciphered-unmapped}
 use Rattle.reading.proofs.decipher.Statement.{statement}
 use Rattle.reading.proofs.decipher.Tie as tie
 
--- The IV and the block lie on the device.
-iv-inside : (c : tie.After-iv-start) → let a = c .before .before .before .before .before .before .args in
-    c .iv-start .result + 16 ≤ length (a .device .now)
-iv-inside c =
-    let start = c .before .before .before .before .before .before in
-    let a = start .args in
-    rw (c .iv-start .ensures, start .pre .1) (iv-fits (a .g) (start .pre .0) (a .entry) (a .j) (c .before .if1 .taken) (start .pre .3))
+abbrev start : tie.Then1 → tie.Start
+start c = c .before .before .before .before .before
 
-block-inside : (c : tie.After-block-start) → let a = c .before .before .before .before .before .before .before .args in
-    c .block-start .result + a .g .b ≤ length (a .device .now)
+-- The IV and the block lie on the device.
+iv-inside : (c : tie.After-iv-start) → c .iv-start .result + 16 ≤ length (start (c .before) .args .device .now)
+iv-inside c =
+    let mapped = c .before in
+    let s = start mapped in
+    let a = s .args in
+    rw (c .iv-start .ensures, s .pre .1) (iv-fits (a .g) (s .pre .0) (a .entry) (a .j) (mapped .if1 .taken) (s .pre .3))
+
+block-inside : (c : tie.After-block-start) → let a = start (c .before .before) .args in c .block-start .result + a .g .b ≤ length (a .device .now)
 block-inside c =
     let mapped = c .before .before in
-    let start = mapped .before .before .before .before .before in
-    let a = start .args in
-    rw (c .block-start .ensures, start .pre .1) (block-fits (a .g) (start .pre .0) (a .entry) (a .j) (mapped .if1 .taken) (start .pre .3))
+    let s = start mapped in
+    let a = s .args in
+    rw (c .block-start .ensures, s .pre .1) (block-fits (a .g) (s .pre .0) (a .entry) (a .j) (mapped .if1 .taken) (s .pre .3))
 
 returns : tie.Need-returns
 returns c =
-    let at = c .before .before .before .before .before .before .before in
+    let enciphered = c .before .before in
+    let at = enciphered .before .before .before .before .before in
     let iv = at .before in
-    let a = iv .before .before .before .before .before .before .args in
-    c .before .before .ctr-into .ensures
+    let a = start (iv .before) .args in
+    enciphered .ctr-into .ensures
     ∙ ap₂ (ctr (a .key .now)) (part-lent (a .device .now) (iv .iv-start .result) 16 (iv .iv-start .ensures))
     (part-lent (a .device .now) (at .block-start .result) (a .g .b) (at .block-start .ensures))
     ∙ sym (deciphered-mapped (a .g) (a .key .now) (a .entry) (a .j) (a .device .now) (iv .before .if1 .taken))

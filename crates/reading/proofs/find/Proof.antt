@@ -16,25 +16,29 @@ use Rattle.reading.proofs.Outcomes.{asked-slot, find-refused, find-mapp
 use Rattle.reading.proofs.find.Statement.{statement}
 use Rattle.reading.proofs.find.Tie as tie
 
-abbrev start : tie.After-enum-told2 → tie.Start
-start c = c .before .before .before .before .before .before .before
+abbrev start : tie.After-read-refusal → tie.Start
+start c = c .before .before .before .before .before
 
 -- Past the refusals.
-none : (c : tie.After-enum-told2) → let a = start c .args in
-    readRefusal (length (a .device .now)) (a .maps .now) (a .owners .now) (a .session) (a .volume) (a .address) (a .session .geometry .b) ≡ 0
-none c = sym (c .before .before .read-refusal .ensures) ∙ ap answerNumber (c .enum-told2 .given .1)
+module _ (c : tie.After-enum-told2) where
+  abbrev checked : tie.After-read-refusal
+  checked = c .before .before
 
-ready : (c : tie.After-enum-told2) → let a = start c .args in
-    Ready (length (a .device .now)) (a .maps .now) (a .owners .now) (a .session) (a .volume) (a .address) (a .session .geometry .b)
-ready c = readRefusal-none _ _ _ _ _ _ _ (none c)
+  none : let a = start checked .args in
+      readRefusal (length (a .device .now)) (a .maps .now) (a .owners .now) (a .session) (a .volume) (a .address) (a .session .geometry .b) ≡ 0
+  none = sym (checked .read-refusal .ensures) ∙ ap answerNumber (c .enum-told2 .given .1)
+
+  ready : let a = start checked .args in
+      Ready (length (a .device .now)) (a .maps .now) (a .owners .now) (a .session) (a .volume) (a .address) (a .session .geometry .b)
+  ready = readRefusal-none _ _ _ _ _ _ _ none
 
 -- The block lies on the device.
-block-inside : (c : tie.After-block-start) → let a = start (c .before .before .before .before .before .before) .args in
+block-inside : (c : tie.After-block-start) → let a = start (checked (c .before .before .before .before .before .before)) .args in
     c .block-start .result + a .session .geometry .b ≤ length (a .device .now)
 block-inside c =
     let mapped = c .before .before in
     let told = mapped .before .before .before .before in
-    let a = start told .args in
+    let a = start (checked told) .args in
     let g = a .session .geometry in
     let r = ready told in
     let ok = r .stands .usable .allowed in
@@ -51,7 +55,7 @@ entry-at-requires c κs = let r = ready (c .before) in asked-slot (r .stands) (r
 block-start-requires : tie.Need-block-start-requires
 block-start-requires c κs =
     let told = c .before .before .before .before .before in
-    let a = start told .args in
+    let a = start (checked told) .args in
     let ok = ready told .stands .usable .allowed in
     (ok, c .before .if1 .taken, offsetOf-lt (a .session .geometry) ok (a .address))
 
@@ -60,7 +64,7 @@ returns-2 c =
     let at = c .before .before in
     let mapped = at .before .before in
     let told = mapped .before .before .before .before in
-    let a = start told .args in
+    let a = start (checked told) .args in
     let g = a .session .geometry in
     let e = mapped .before .before .entry-at .ensures in
     part-lent (a .device .now) (at .block-start .result) (g .b)

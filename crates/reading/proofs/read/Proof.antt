@@ -16,26 +16,38 @@ use Rattle.reading.proofs.Outcomes.{asked-slot, read-refused, read-serv
 use Rattle.reading.proofs.read.Statement.{statement}
 use Rattle.reading.proofs.read.Tie as tie
 
-abbrev start : tie.After-enum-told2 → tie.Start
-start c = c .before .before .before .before .before .before .before
+abbrev start : tie.After-read-refusal → tie.Start
+start c = c .before .before .before .before .before
+
+keys-length : (s : tie.Start) → length (s .args .session .keys) ≡ 480
+keys-length s = search needs
 
 -- Past the refusals.
-none : (c : tie.After-enum-told2) → let a = start c .args in
-    readRefusal (length (a .device .now)) (a .maps .now) (a .owners .now) (a .session) (a .volume) (a .address) (length (a .buf .now)) ≡ 0
-none c = sym (c .before .before .read-refusal .ensures) ∙ ap answerNumber (c .enum-told2 .given .1)
+module _ (c : tie.After-enum-told2) where
+  abbrev checked : tie.After-read-refusal
+  checked = c .before .before
 
-ready : (c : tie.After-enum-told2) → let a = start c .args in
-    Ready (length (a .device .now)) (a .maps .now) (a .owners .now) (a .session) (a .volume) (a .address) (length (a .buf .now))
-ready c = readRefusal-none _ _ _ _ _ _ _ (none c)
+  none : let a = start checked .args in
+      readRefusal (length (a .device .now)) (a .maps .now) (a .owners .now) (a .session) (a .volume) (a .address) (length (a .buf .now)) ≡ 0
+  none = sym (checked .read-refusal .ensures) ∙ ap answerNumber (c .enum-told2 .given .1)
 
-volume-small : (c : tie.After-enum-told2) → start c .args .volume ≤ 14
-volume-small c = let r = ready c in omega (arith, r .asked .volume, r .stands .usable .top)
+  ready : let a = start checked .args in
+      Ready (length (a .device .now)) (a .maps .now) (a .owners .now) (a .session) (a .volume) (a .address) (length (a .buf .now))
+  ready = readRefusal-none _ _ _ _ _ _ _ none
+
+  volume-most : start checked .args .volume ≤ 14
+  volume-most = omega (arith, ready .asked .volume, ready .stands .usable .top)
+
+-- Where the keys are lent, the refusals are past.
+abbrev told : tie.After-keys2 → tie.After-enum-told2
+told c = c .before .before .before .before .before
 
 returns : tie.Need-returns
 returns c =
-    let a = c .before .before .before .before .before .before .before .args in
+    let refusal = c .before .before in
+    let a = start refusal .args in
     rw (read-refused (a .device .now) (a .maps .now) (a .owners .now) (a .session) (a .volume) (a .address) (length (a .buf .now)) _
-    (c .before .before .read-refusal .ensures) (answer-positive (c .enum-told .given .1)))
+    (refusal .read-refusal .ensures) (answer-positive (c .enum-told .given .1)))
     (refl, (refl, refl))
 
 entry-at-requires : tie.Need-entry-at-requires
@@ -43,30 +55,30 @@ entry-at-requires c κs = let r = ready (c .before .before .before) in asked-slo
 
 part-decipher-end : tie.Need-part-decipher-end
 part-decipher-end c =
-    let keys = c .before .before .before .before .before .before .before .before .before .before .before .before .args .session .keys in
-    let keys-long : length keys ≡ 480 = search needs in
-    omega (arith, keys-long, volume-small (c .before .before .before .before .before))
+    let passed = told c in
+    omega (arith, keys-length (start (checked passed)), volume-most passed)
 
 decipher-requires : tie.Need-decipher-requires
 decipher-requires c κs =
-    let told = c .before .before .before .before .before .before .before .before in
-    let a = start told .args in
-    let r = ready told in
+    let passed = told (c .before .before .before) in
+    let a = start (checked passed) .args in
+    let r = ready passed in
     let ok = r .stands .usable .allowed in
     (ok, r .stands .long, search needs, offsetOf-lt (a .session .geometry) ok (a .address), r .asked .size)
 
 returns-2 : tie.Need-returns-2
 returns-2 c =
-    let entry = c .before .before .before .before .before .before .before in
-    let told = entry .before .before .before .before in
-    let a = start told .args in
+    let deciphering = c .before .before in
+    let lent = deciphering .before .before .before .before in
+    let passed = told lent in
+    let a = start (checked passed) .args in
     let g = a .session .geometry in
-    rw (read-served (a .device .now) (a .maps .now) (a .owners .now) (a .session) (a .volume) (a .address) (length (a .buf .now)) (none told)) (
+    rw (read-served (a .device .now) (a .maps .now) (a .owners .now) (a .session) (a .volume) (a .address) (length (a .buf .now)) (none passed)) (
       refl,
       (
-        c .before .before .decipher .ensures
+        deciphering .decipher .ensures
             ∙ ap₂ (λ (key : List ℕ) (entry : ℕ). deciphered g key entry (offsetOf g (a .address)) (a .device .now))
-            (part-lent (a .session .keys) (32 * a .volume) 32 refl) (entry .entry-at .ensures),
+            (part-lent (a .session .keys) (32 * a .volume) 32 refl) (lent .before .entry-at .ensures),
         refl,
       ),
     )
@@ -74,8 +86,8 @@ returns-2 c =
 pub read-spec : {M : Type 1} → statement M
 read-spec =
     tie.close
-    (tie.spec (λ c κs. search needs) (λ c. search needs) returns (λ c. search needs) (λ c. omega (arith, volume-small (c .before .before)))
-    (λ c. omega (arith, volume-small (c .before .before))) (λ c. ready (c .before .before .before) .stands .usable .allowed .slice-least)
+    (tie.spec (λ c κs. search needs) (λ c. search needs) returns (λ c. search needs) (λ c. omega (arith, volume-most (c .before .before)))
+    (λ c. omega (arith, volume-most (c .before .before))) (λ c. ready (c .before .before .before) .stands .usable .allowed .slice-least)
     entry-at-requires (λ c. search needs) (λ c. search needs) part-decipher-end
-    (λ c. ready (c .before .before .before .before .before .before .before) .stands .usable .allowed .slice-least) decipher-requires
+    (λ c. ready (told (c .before .before)) .stands .usable .allowed .slice-least) decipher-requires
     (λ c. search needs) returns-2)
