@@ -2,7 +2,8 @@
 use mathlib.Core.Path.{_≡_, refl, sym, ap, ap₂, _∙_, subst}
 use mathlib.Core.List.{List, [], _∷_, _++_}
 use Prim.Native.Nat.{ℕ, zero, suc, _+_, _*_, _/_, _%_, _^_, _<_}
-use native.Mathlib.Nat.{zero-add, add-zero, suc-add, add-assoc, add-comm, add-mul, mul-assoc, mul-comm, mul-one, one-le-pow, pow-succ', zero-lt-suc, add-mul-div-right, mul-add-mod-self-right, div-div-eq-div-mul, mod-eq-of-lt, mod-one}
+use native.Mathlib.Nat.{zero-add, add-zero, suc-add, add-assoc, add-comm, add-mul, mul-assoc, mul-comm, mul-one, one-le-pow, pow-succ'}
+use native.Mathlib.Nat.{zero-lt-suc, add-mul-div-right, mul-add-mod-self-right, div-div-eq-div-mul, mod-eq-of-lt, mod-one}
 use native.Mathlib.Omega.{arith}
 use lib.Arith.{digits-lt, digits-div, mod-mul}
 use lib.Pow.{pow-add}

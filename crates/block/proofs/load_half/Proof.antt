@@ -47,4 +47,5 @@ returns c =
 pub load-half-spec : {M : Type 1} → statement M
 load-half-spec =
     tie.close
-    (tie.spec Inv-loop μ-loop loop-holds mul-x (λ c. omega arith) (λ c κs. search needs) add-x (λ c. omega arith) (λ c. omega arith) loop-again returns)
+    (tie.spec Inv-loop μ-loop loop-holds mul-x (λ c. omega arith) (λ c κs. search needs) add-x (λ c. omega arith) (λ c. omega arith)
+    loop-again returns)

@@ -9,7 +9,8 @@ returns : tie.Need-returns
 returns c =
     let loaded = c .before .before .before .before .before .before in
     let expanded = loaded .before in
-    let start = expanded .before .before .before .before .before .before .before in
+    let known = expanded .before .before .before in
+    let start = known .before .before .before .before in
     let a = start .args in
     c .before .before .apply-keystream .ensures
     ∙ ctrFrom-schedule (a .key .now) (a .iv .now) (a .n) (a .text .now) (expanded .key-expansion .ensures) (loaded .load-block .ensures)

@@ -29,7 +29,8 @@ loop-again c =
     let l = c .before .before .before .loop in
     let perm = c .before .before .before .before .args .perm .now in
     let slice = getD perm (l .i) 0 in
-    let stored : c .if1 .named ≡ set (l .named) slice 1 = ⊎-elim (λ w. w .1) (λ w. w .1 ∙ sym (set-out (l .named) slice 1 (w .0 .left))) (c .if1 .came) in (
+    let stored : c .if1 .named ≡ set (l .named) slice 1 =
+    ⊎-elim (λ w. w .1) (λ w. w .1 ∙ sym (set-out (l .named) slice 1 (w .0 .left))) (c .if1 .came) in (
       search needs,
       ap length stored ∙ length-set (l .named) slice 1 ∙ l .inv .1,
       ap (flagged (drop (l .i + 1) perm)) stored ∙ sym (flagged-turn perm (l .named) (l .i) (c .before .before .loop-test .taken)) ∙ l .inv .2,
