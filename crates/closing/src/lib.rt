@@ -140,7 +140,7 @@ fn close_refusal(
 ) -> Answer
     ensures { λ r. ⌜ answerNumber r ≡ closeRefusal device (held (now (maps .entry)) (now (owners .entry)) position session) tape ⌝ }
 {
-    let bad = reading::check_standing(device, maps.len(), owners.len(), session);
+    let bad = requests::check_standing(device, maps.len(), owners.len(), session);
     if let Answer::Refused(_) = bad {
         return bad;
     }

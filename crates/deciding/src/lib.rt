@@ -35,7 +35,7 @@ fn write_refusal(
 ) -> Answer
     ensures { λ r. ⌜ answerNumber r ≡ writeRefusal device (now (maps .entry)) (now (owners .entry)) session volume address len perm ⌝ }
 {
-    let bad = reading::check_standing(device, maps.len(), owners.len(), session);
+    let bad = requests::check_standing(device, maps.len(), owners.len(), session);
     if let Answer::Refused(_) = bad {
         return bad;
     }
@@ -43,7 +43,7 @@ fn write_refusal(
     if perm != g.p {
         return Answer::Refused(Refusal::BadPermutation);
     }
-    reading::check_asked(maps, session, volume, address, len)
+    requests::check_asked(maps, session, volume, address, len)
 }
 
 // The decision on a write of len bytes to a device of so many bytes, with a tape of so many bytes and its position. What

@@ -12,13 +12,14 @@ use Rattle.refusals.proofs.Refuse.{refuse-none, refuse-false}
 use Rattle.model.specs.declared.Geometry.{Geometry}
 use Rattle.model.specs.declared.Session.{Session}
 use Rattle.model.specs.Geometry.{Allowed, deviceLength}
-use Rattle.model.specs.Session.{Held, blockCount, entryOf, standing, asked, short}
+use Rattle.model.specs.Session.{Held, blockCount, slot, sliceOf, entryOf, standing, asked, short}
 use Rattle.model.specs.Conditions.{Usable, TablesFit, EntryFits, Enough}
 use Rattle.model.specs.Opening.{missing, openRefusal}
 use Rattle.model.specs.Read.{readRefusal}
 use Rattle.model.specs.Write.{writeRefusal}
 use Rattle.model.specs.Close.{closeNeed, closeRefusal}
 use Rattle.model.proofs.Tests.{or-true, or-false, equal-passes, badGeometry-none, badGeometry-allowed, badEntry-false, badEntry-fits}
+use Rattle.model.proofs.Bounds.{slot-lt, sliceOf-lt}
 
 -- ---- 20, 2, 4
 
@@ -181,3 +182,13 @@ openRefusal-none g device key maps owners perm e =
       places = eqb-true _ _ (not-false _ (p6 .0));
       named = p7 .0;
     }
+
+-- ---- the entry of an asked block
+
+-- It stands in the map table.
+pub asked-slot : {device owners : ℕ} {maps : List ℕ} {s : Session} {i a len : ℕ} → Stands device (length maps) owners s → Asked maps s i a len
+    → slot (s .geometry) i (sliceOf (s .geometry) a) < length maps
+asked-slot {s = s} {i = i} {a = a} h q =
+    let ok = h .usable .allowed in
+    rw (h .tables .0)
+    (slot-lt (s .geometry) ok i _ (omega (arith, q .volume, h .usable .top)) (sliceOf-lt (s .geometry) ok a (q .address)))

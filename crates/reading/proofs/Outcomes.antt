@@ -2,27 +2,14 @@
 use Prim.Native.Nat.{ℕ, _≤_, _<_}
 use mathlib.Core.Path.{_≡_}
 use mathlib.Core.List.{List, []}
-use native.Mathlib.Omega.{arith}
 use lib.ListN.{length}
 use borrow.Author.Tests.{lt-ltb, le-ltb}
 use Rattle.model.specs.declared.Session.{Session}
 use Rattle.model.specs.Parts.{part}
 use Rattle.model.specs.Geometry.{blockStart}
-use Rattle.model.specs.Session.{slot, sliceOf, offsetOf, entryOf}
+use Rattle.model.specs.Session.{offsetOf, entryOf}
 use Rattle.model.specs.Read.{blockOf, readRefusal, Filled, Refused, readModel, findModel}
-use Rattle.model.proofs.Requests.{Stands, Asked}
-use Rattle.model.proofs.Bounds.{slot-lt, sliceOf-lt}
 use Rattle.model.proofs.Order.{unless-refused}
-
--- ---- requests that are not refused
-
--- The entry of an asked block stands in the map table.
-pub asked-slot : {device owners : ℕ} {maps : List ℕ} {s : Session} {i a len : ℕ} → Stands device (length maps) owners s → Asked maps s i a len
-    → slot (s .geometry) i (sliceOf (s .geometry) a) < length maps
-asked-slot {s = s} {i = i} {a = a} h q =
-    let ok = h .usable .allowed in
-    rw (h .tables .0)
-    (slot-lt (s .geometry) ok i _ (omega (arith, q .volume, h .usable .top)) (sliceOf-lt (s .geometry) ok a (q .address)))
 
 -- ---- read
 

@@ -1,4 +1,4 @@
-// Read and find, and the refusals that every request of a session shares.
+// Read and find.
 //
 // `read` and `find` are public calls: any arguments. Neither draws from the tape, and neither changes device or tables.
 ghost use mathlib.Core.Path.{_≡_};
@@ -6,7 +6,6 @@ ghost use Prim.Native.Nat.{_+_, _*_, _≤_, _<_};
 ghost use lib.ListN.{length};
 ghost use Rattle.refusals.specs.Numbers.{answerNumber};
 ghost use Rattle.model.specs.Geometry.{Allowed, deviceLength};
-ghost use Rattle.model.specs.Session.{standing, asked};
 ghost use Rattle.model.specs.Read.{deciphered, readRefusal, readModel, findModel};
 ghost use Rattle.model.specs.Answers.{readNumber, readBuffer};
 use model::Geometry;
@@ -14,63 +13,6 @@ use model::Reply;
 use model::Session;
 use refusals::Answer;
 use refusals::Refusal;
-
-// 20, 2 and 4, from the lengths of the device and the tables. The session is tested before any arithmetic on it.
-pub fn check_standing(device: usize, maps: usize, owners: usize, session: Session) -> Answer
-    ensures { λ r. ⌜ answerNumber r ≡ standing device maps owners session 0 ⌝ }
-{
-    if !session.opened {
-        return Answer::Refused(Refusal::NotOpen);
-    }
-    let g = session.geometry;
-    let bad = places::check_geometry(Refusal::NotOpen, g);
-    if let Answer::Refused(_) = bad {
-        return bad;
-    }
-    if 14 < session.k {
-        return Answer::Refused(Refusal::NotOpen);
-    }
-    if device != places::device_length(g) {
-        return Answer::Refused(Refusal::DeviceLength);
-    }
-    if maps != 15 * g.p {
-        return Answer::Refused(Refusal::TableLength);
-    }
-    if owners != g.p {
-        return Answer::Refused(Refusal::TableLength);
-    }
-    Answer::Served
-}
-
-// 11, 12, 13 and 9 of a block asked for in a session that stands. The address is tested before it is divided.
-pub fn check_asked(
-    maps: &[u32],
-    session: Session,
-    volume: usize,
-    address: usize,
-    len: usize,
-) -> Answer
-    requires { ⌜ Allowed (session .geometry) × (session .k ≤ 14) × (length (now maps) ≡ 15 * session .geometry .p) ⌝ }
-    ensures { λ r. ⌜ answerNumber r ≡ asked (now (maps .entry)) session volume address len ⌝ }
-{
-    if session.k < volume {
-        return Answer::Refused(Refusal::VolumeAbove);
-    }
-    let g = session.geometry;
-    if g.p * g.s <= address {
-        return Answer::Refused(Refusal::AddressAbove);
-    }
-    if len != g.b {
-        return Answer::Refused(Refusal::WrongLength);
-    }
-    let entry = tables::entry_at(maps, g, volume, address / g.s);
-    if entry != tables::UNMAPPED {
-        if g.p <= entry {
-            return Answer::Refused(Refusal::BadEntry);
-        }
-    }
-    Answer::Served
-}
 
 // All refusals of a read with a buffer of room bytes.
 fn read_refusal(
@@ -84,11 +26,11 @@ fn read_refusal(
 ) -> Answer
     ensures { λ r. ⌜ answerNumber r ≡ readRefusal device (now (maps .entry)) (now (owners .entry)) session volume address room ⌝ }
 {
-    let bad = check_standing(device, maps.len(), owners.len(), session);
+    let bad = requests::check_standing(device, maps.len(), owners.len(), session);
     if let Answer::Refused(_) = bad {
         return bad;
     }
-    check_asked(maps, session, volume, address, room)
+    requests::check_asked(maps, session, volume, address, room)
 }
 
 // Data block j of the slice that an entry names, deciphered; zeros where it names none.

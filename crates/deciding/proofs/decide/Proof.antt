@@ -7,8 +7,7 @@ use borrow.Author.Needs.{needs}
 use Rattle.refusals.specs.Numbers.{answerNumber}
 use Rattle.model.specs.Session.{slot, sliceOf}
 use Rattle.model.specs.Write.{firstFree}
-use Rattle.model.proofs.Requests.{Writable, writeRefusal-none}
-use Rattle.reading.proofs.Outcomes.{asked-slot}
+use Rattle.model.proofs.Requests.{Writable, writeRefusal-none, asked-slot}
 use Rattle.deciding.proofs.Outcomes.{refused-first, rewrite-short, rewrite-served}
 use Rattle.deciding.proofs.Outcomes.{claim-bad, bad-place, claim-full, free-place, claim-short, claim-served}
 use Rattle.deciding.proofs.decide.Statement.{statement}

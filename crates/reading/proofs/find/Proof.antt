@@ -10,9 +10,9 @@ use Rattle.model.specs.Geometry.{blockStart}
 use Rattle.model.specs.Session.{offsetOf}
 use Rattle.model.specs.Read.{readRefusal}
 use Rattle.model.proofs.Parts.{part-lent}
-use Rattle.model.proofs.Requests.{Ready, readRefusal-none}
+use Rattle.model.proofs.Requests.{Ready, readRefusal-none, asked-slot}
 use Rattle.model.proofs.Bounds.{offsetOf-lt, block-fits}
-use Rattle.reading.proofs.Outcomes.{asked-slot, find-refused, find-mapped, find-unmapped}
+use Rattle.reading.proofs.Outcomes.{find-refused, find-mapped, find-unmapped}
 use Rattle.reading.proofs.find.Statement.{statement}
 use Rattle.reading.proofs.find.Tie as tie
 

@@ -10,9 +10,9 @@ use Rattle.refusals.proofs.Positive.{answer-positive}
 use Rattle.model.specs.Session.{offsetOf}
 use Rattle.model.specs.Read.{deciphered, readRefusal}
 use Rattle.model.proofs.Parts.{part-lent}
-use Rattle.model.proofs.Requests.{Ready, readRefusal-none}
+use Rattle.model.proofs.Requests.{Ready, readRefusal-none, asked-slot}
 use Rattle.model.proofs.Bounds.{offsetOf-lt}
-use Rattle.reading.proofs.Outcomes.{asked-slot, read-refused, read-served}
+use Rattle.reading.proofs.Outcomes.{read-refused, read-served}
 use Rattle.reading.proofs.read.Statement.{statement}
 use Rattle.reading.proofs.read.Tie as tie
 

@@ -10,8 +10,7 @@ use Rattle.model.specs.declared.Session.{Session}
 use Rattle.model.specs.Geometry.{deviceLength}
 use Rattle.model.specs.Session.{held, slot, sliceOf}
 use Rattle.model.proofs.Bounds.{offsetOf-lt}
-use Rattle.model.proofs.Requests.{Writable, writeRefusal-none}
-use Rattle.reading.proofs.Outcomes.{asked-slot}
+use Rattle.model.proofs.Requests.{Writable, writeRefusal-none, asked-slot}
 use Rattle.deciding.specs.declared.Decision.{Decision}
 use Rattle.deciding.specs.declared.Decision.the-variants.{Rewrite, Claim}
 use Rattle.deciding.specs.Decided.{Decided}

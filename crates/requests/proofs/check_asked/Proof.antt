@@ -1,4 +1,4 @@
--- `reading::check_asked` meets its contract: each return is the first refusal whose test holds. Assumes nothing.
+-- `requests::check_asked` meets its contract: each return is the first refusal whose test holds. Assumes nothing.
 use mathlib.Core.Path.{sym, _∙_}
 use native.Mathlib.Omega.{arith}
 use borrow.Author.Needs.{needs}
@@ -8,8 +8,8 @@ use Rattle.refusals.specs.Numbers.{refuse}
 use Rattle.model.specs.Session.{asked}
 use Rattle.model.proofs.Tests.{badEntry-fits}
 use Rattle.model.proofs.Bounds.{blockCount-small, slot-lt, sliceOf-lt}
-use Rattle.reading.proofs.check_asked.Statement.{statement}
-use Rattle.reading.proofs.check_asked.Tie as tie
+use Rattle.requests.proofs.check_asked.Statement.{statement}
+use Rattle.requests.proofs.check_asked.Tie as tie
 
 returns : tie.Need-returns
 unfolding asked refuse

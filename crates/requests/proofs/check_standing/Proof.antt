@@ -1,4 +1,4 @@
--- `reading::check_standing` meets its contract: each return is the first refusal whose test holds. Assumes nothing.
+-- `requests::check_standing` meets its contract: each return is the first refusal whose test holds. Assumes nothing.
 use Prim.Native.Nat.{ℕ, _*_}
 use mathlib.Core.Path.{_≡_, sym, ap, _∙_}
 use mathlib.Core.Bool.{not}
@@ -12,8 +12,8 @@ use Rattle.model.specs.Geometry.{Allowed, badGeometry}
 use Rattle.model.specs.Session.{standing}
 use Rattle.model.proofs.Tests.{badGeometry-none, badGeometry-allowed}
 use Rattle.model.proofs.Order.{badGeometry-first}
-use Rattle.reading.proofs.check_standing.Statement.{statement}
-use Rattle.reading.proofs.check_standing.Tie as tie
+use Rattle.requests.proofs.check_standing.Statement.{statement}
+use Rattle.requests.proofs.check_standing.Tie as tie
 
 abbrev start : tie.After-enum-told2 → tie.Start
 start c = c .before .before .before .before .before .before
