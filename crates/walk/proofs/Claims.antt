@@ -61,7 +61,16 @@ module _ (w : Walk) (maps owners perm : List ℕ) (i a : ℕ) (shuffled : w .shu
         → Serves w ψ (offsetOf g a) (place + 1) (g .b) w′ said
         → Answers (written state i a) (stateOf w′ maps′ owners′ perm) (answerBytes said)
     claim-answers place maps′ owners′ e inside below m o s =
-        rw (m, o, s .moved, s .answered, engineWrite-lent ∙ e, take-set-lt _ maps _ ψ inside, take-set-lt _ owners ψ (i + 1) below, sub-zero (place + 1))
+        rw (
+          m,
+          o,
+          s .moved,
+          s .answered,
+          engineWrite-lent ∙ e,
+          take-set-lt _ maps _ ψ inside,
+          take-set-lt _ owners ψ (i + 1) below,
+          sub-zero (place + 1),
+        )
         (record { left = refl; answered = refl })
 
   -- ---- numbers that no walk has

@@ -24,4 +24,12 @@ unfolding pairs
 pairs-turn bytes numbers i inside room =
     let next : 2 * (i + 1) ≡ suc (suc (2 * i)) = omega arith in
     let n = number (part (2 * i) 2 bytes) in
-    rw (next, add-one i, take-suc-set numbers i n room, append-snoc, drop-cons bytes (2 * i) 0 (omega arith), drop-cons bytes (suc (2 * i)) 0 (omega arith)) refl
+    rw (
+      next,
+      add-one i,
+      take-suc-set numbers i n room,
+      append-snoc,
+      drop-cons bytes (2 * i) 0 (omega arith),
+      drop-cons bytes (suc (2 * i)) 0 (omega arith),
+    )
+    refl

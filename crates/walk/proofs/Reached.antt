@@ -20,7 +20,8 @@ use Rattle.model.proofs.Tests.{badGeometry-none}
 use Rattle.model.proofs.Bounds.{b-bounds, bytes-small, offsetOf-lt, block-fits}
 use Rattle.walk.specs.Hexadecimal.{Spelt, Bytes, Neither, decode}
 use Rattle.walk.specs.State.{State, empty}
-use Rattle.walk.specs.Frames.{Stepped, refusedBy, sizeOf, onSize, pairs, onOrder, served, printed, counting, written, onClaim, onKind, onFrame, step}
+use Rattle.walk.specs.Frames.{Stepped, refusedBy, sizeOf, onSize, pairs, onOrder, served, printed, counting, written}
+use Rattle.walk.specs.Frames.{onClaim, onKind, onFrame, step}
 use Rattle.walk.specs.Theorems.{Reached, begin, after, answerNumbers, Listed, byte, values}
 use Rattle.walk.proofs.Engine.{choose-cases, unless-cases, Fits, FitsOf, write-cases}
 
@@ -165,7 +166,10 @@ module _ (w : State) (s : Sound w) where
         (λ n probes l. record { listed = byte n l; sound = leaving-sound h refl (omega arith) (s .fits) })
         (λ ψ l. record { listed = fitting ψ 0 _ l (omega arith) (omega arith); sound = leaving-sound _ refl (omega arith) (s .fits) })
         (λ ψ place l m.
-        record { listed = fitting ψ _ _ l (omega arith) (omega arith); sound = leaving-sound _ refl (omega arith) (λ e. claimed-fits _ _ _ fits _ ψ _ l) })
+        record {
+          listed = fitting ψ _ _ l (omega arith) (omega arith);
+          sound = leaving-sound _ refl (omega arith) (λ e. claimed-fits _ _ _ fits _ ψ _ l);
+        })
 
   claim-good : (fields : List ℕ) → Good (onClaim w fields)
   unfolding onClaim

@@ -22,9 +22,15 @@ use Rattle.walk.proofs.claim.Tie as tie
 
 -- ---- what was decided
 
+abbrev entered : tie.After-device-length → tie.Start
+entered c = c .before .before .before .before .before
+
 module _ (c : tie.After-decide) where
+  abbrev sized : tie.After-device-length
+  sized = c .before .before .before .before .before
+
   abbrev start : tie.Start
-  start = c .before .before .before .before .before .before .before .before .before .before
+  start = entered sized
 
   abbrev g : Geometry
   g = start .args .walk .geometry
@@ -38,7 +44,6 @@ module _ (c : tie.After-decide) where
 
   says : (d : Decision) → c .decide .result ≡ d → Says (deviceLength g) (allOpen g) d
   says d e =
-      let sized = c .before .before .before .before .before in
       subst (λ (n : ℕ). Says n (allOpen g) d) (sized .device-length .ensures)
       (subst (λ (s : Session). Says (sized .device-length .result) s d) (c .before .all-open .ensures)
       (subst (Says (sized .device-length .result) (c .before .all-open .result)) e
@@ -73,8 +78,8 @@ module _ (c : tie.After-decision3) where
   claims = says by′ _ (c .decision3 .given .1)
 
   fit : let a = start by′ .args in
-      Writable (deviceLength (g by′)) (take (15 * g by′ .p) (a .maps .now)) (take (g by′ .p) (a .owners .now)) (allOpen (g by′)) (a .volume) (a .address)
-      (length (zeros (g by′ .b))) (length (take (g by′ .p) (a .perm .now)))
+      Writable (deviceLength (g by′)) (take (15 * g by′ .p) (a .maps .now)) (take (g by′ .p) (a .owners .now)) (allOpen (g by′))
+      (a .volume) (a .address) (length (zeros (g by′ .b))) (length (take (g by′ .p) (a .perm .now)))
   fit = writeRefusal-none _ _ _ _ _ _ _ _ (claims .0 .none)
 
   slot-below : let a = start by′ .args in slot (g by′) (a .volume) (sliceOf (g by′) (a .address)) < 15 * g by′ .p
@@ -143,10 +148,10 @@ claim-spec =
     (λ c. search needs)
     (λ c κs. search needs)
     (λ c. search needs)
-    (λ c. sym (length-take-le _ _ (c .before .before .before .before .before .before .pre .2)))
+    (λ c. sym (length-take-le _ _ (entered (c .before) .pre .2)))
     (λ c. search needs)
-    (λ c. sym (length-take-le _ _ (c .before .before .before .before .before .before .before .pre .4)))
-    (λ c. sym (length-take-le _ _ (c .before .before .before .before .before .before .before .before .pre .5)))
+    (λ c. sym (length-take-le _ _ (entered (c .before .before) .pre .4)))
+    (λ c. sym (length-take-le _ _ (entered (c .before .before .before) .pre .5)))
     (λ c κs. search needs)
     (λ c κs. search needs)
     (λ c. search needs)

@@ -27,23 +27,26 @@ loop-holds c =
 returns-2 : tie.Need-returns-2 Inv-loop μ-loop
 returns-2 c =
     let first = c .before .before .before in
-    let l = first .before .before .before .loop in
-    let line = first .before .before .before .before .before .before .before .args .line .now in
+    let turn = first .before .before .before in
+    let l = turn .loop in
+    let line = turn .before .before .before .before .args .line .now in
     (l .inv .2 ∙ decode-high line (l .i) (omega arith) (take (l .i) (l .frame)) (omega arith), search needs)
 
 returns-3 : tie.Need-returns-3 Inv-loop μ-loop
 returns-3 c =
     let first = c .before .before .before .before in
-    let l = first .before .before .before .loop in
-    let line = first .before .before .before .before .before .before .before .args .line .now in
+    let turn = first .before .before .before in
+    let l = turn .loop in
+    let line = turn .before .before .before .before .args .line .now in
     (l .inv .2 ∙ decode-low line (l .i) (omega arith) (take (l .i) (l .frame)) (omega arith) (omega arith), search needs)
 
 loop-again : tie.Need-loop-again Inv-loop μ-loop
 loop-again c =
     let second = c .before .before in
     let first = second .before .before in
-    let l = first .before .before .before .loop in
-    let line = first .before .before .before .before .before .before .before .args .line .now in (
+    let turn = first .before .before .before in
+    let l = turn .loop in
+    let line = turn .before .before .before .before .args .line .now in (
       search needs,
       simp length-set (l .inv .1),
       l .inv .2

@@ -44,10 +44,12 @@ add-taken c =
 
 returns-2 : tie.Need-returns-2
 returns-2 c =
-    let tested = c .before .before .before .before .before .before .before .before in
+    let stepping = c .before in
+    let lent = stepping .before in
+    let tested = lent .before .before .before .before .before .before in
     let n = tested .before .before .before .before .line-length in
     let s = tested .before .before .before .before .before .before in
-    let stepped = c .before .step-on .ensures in
+    let stepped = stepping .step-on .ensures in
     rw (feed-ended (reader s) (s .args .piece .now) (n .result) (n .ensures) (tested .if1 .left), ← tested .before .keep .ensures .0)
     (record { left = ap (λ (w : State). record { state = w; line = [] }) (stepped .0); took = refl; wrote = stepped .1 })
 

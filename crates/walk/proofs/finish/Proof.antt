@@ -21,18 +21,21 @@ returns c =
     rw (c .if1 .taken) (record { put = sym (overlay-nil (a .out .now)); long = refl; fits = omega arith })
 
 module _ (c : tie.After-step-on-arg5) where
+  abbrev counted : tie.Joined2
+  counted = c .before .before .before .before .before
+
   abbrev start : tie.Start
-  start = c .before .before .before .before .before .before .before
+  start = counted .before .before
 
   abbrev kept : ℕ
-  kept = c .before .before .before .before .before .if2 .kept
+  kept = counted .if2 .kept
 
   long : length (start .args .line .now) ≡ 1027
   long = search needs
 
   -- No more is kept than there is.
   kept-most : kept ≤ 1027
-  kept-most = ⊎-elim (λ w. omega arith) (λ w. omega arith) (c .before .before .before .before .before .if2 .came)
+  kept-most = ⊎-elim (λ w. omega arith) (λ w. omega arith) (counted .if2 .came)
 
   kept-line : take (start .args .used) (start .args .line .now) ≡ take kept (start .args .line .now)
   kept-line =
@@ -40,7 +43,7 @@ module _ (c : tie.After-step-on-arg5) where
       let line = a .line .now in
       let cut : ℕ → List ℕ = λ n. take n line in
       ⊎-elim (λ w. take-all (a .used) line (omega (arith, long)) ∙ sym (take-all 1027 line (omega (arith, long))) ∙ ap cut (sym (w .1)))
-      (λ w. ap cut (sym (w .1))) (c .before .before .before .before .before .if2 .came)
+      (λ w. ap cut (sym (w .1))) (counted .if2 .came)
 
 step-on-requires : tie.Need-step-on-requires
 step-on-requires c κs = omega (arith, kept-most c, long c)
