@@ -8,19 +8,22 @@ use Rattle.walk.proofs.Lines.{feed-takes}
 use Rattle.slicewalk.proofs.walk_line.Statement.{statement}
 use Rattle.slicewalk.proofs.walk_line.Tie as tie
 
+abbrev start : tie.After-feed → tie.Start
+start c = let lending : tie.After-walk = c .before .before .before .before .before .before in lending .before .before .before
+
 long : (c : tie.After-feed) → length (c .feed .last .1 .1 .1 .1 .1 .1 .1 .0) ≡ 27
 long c = ap length (c .feed .ensures .wrote .put) ∙ overlay-length _ 0 _
 
 put-requires : tie.Need-put-requires
 put-requires c κs =
     let fed = c .before .before .before in
-    let pre = fed .before .before .before .before .before .before .before .before .before .pre in
+    let pre = start fed .pre in
     (pre .2, omega (arith, long fed, pre .1), fed .feed .ensures .wrote .fits)
 
 returns : tie.Need-returns
 returns c =
     let fed = c .before .before .before .before .before .before in
-    let pre = fed .before .before .before .before .before .before .before .before .before .pre in
+    let pre = start fed .pre in
     let takes = feed-takes _ _ (pre .0) in
     (rw (fed .feed .ensures .took) (takes .0), rw (fed .feed .ensures .took) (takes .1), c .before .before .put .ensures)
 

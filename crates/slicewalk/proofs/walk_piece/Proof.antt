@@ -24,7 +24,8 @@ walk-line-requires c κs = search needs
 add-at : tie.Need-add-at Inv-loop μ-loop
 add-at c =
     let came = c .before .before .before in
-    let turn = came .before .before .before .before .before .before .before .before in
+    let lent = came .before .before .before in
+    let turn = lent .before .before .before .before .before in
     let s = turn .before .before .before in
     let piece = s .args .piece .now in
     let at = turn .loop .at in

@@ -5,7 +5,9 @@ use Rattle.slicewalk.proofs.walk_some.Tie as tie
 
 same-length-3 : tie.Need-same-length-3
 same-length-3 c =
-    let counted = c .before .before .before .before .before .before .before .before .before .before .before .before .before .before in
+    let walked = c .before .before .before .before .before .before in
+    let lending = walked .before .before .before .before .before .before in
+    let counted = lending .before .before in
     counted .before .before .before .before .before .read .kept .1 .0
 
 pub walk-some-spec : {M : Type 1} → statement M
