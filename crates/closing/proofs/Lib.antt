@@ -1,2 +1,3 @@
+pub mod Carries
 pub mod MapBlocks
 pub mod Outcomes

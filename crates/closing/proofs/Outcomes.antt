@@ -6,20 +6,16 @@ use mathlib.Core.List.{List}
 use native.Mathlib.Nat.{mul-le-mul, mul-le-mul-left}
 use native.Mathlib.Omega.{arith}
 use lib.ListN.{length}
-use Rattle.refusals.specs.declared.Answer.{Answer}
-use Rattle.refusals.specs.declared.Answer.the-variants as answer
-use Rattle.refusals.specs.declared.Refusal.{Refusal}
-use Rattle.refusals.specs.Numbers.{refuse, answerNumber}
-use Rattle.refusals.proofs.Positive.{refusal-positive}
+use Rattle.refusals.specs.Numbers.{refuse}
+use Rattle.refusals.proofs.Refuse.{refuse-none}
 use Rattle.model.specs.declared.Geometry.{Geometry}
+use Rattle.model.specs.declared.Session.{Session}
 use Rattle.model.specs.Geometry.{Allowed, mapBlocks}
-use Rattle.model.specs.Parts.{patched}
-use Rattle.model.specs.Session.{Held, geometry, standing, short}
-use Rattle.model.specs.Close.{CloseResult, anyBad, closeNeed, closeRefusal, closed, closeModel}
-use Rattle.model.specs.Answers.{closeResult, Leaves}
-use Rattle.model.proofs.Requests.{Stands, standing-stands}
+use Rattle.model.specs.Session.{Held, held, geometry, standing, short}
+use Rattle.model.specs.Close.{anyBad, closeNeed, closeRefusal, closed, closeModel}
+use Rattle.model.proofs.Requests.{Stands, standing-none, standing-stands}
 use Rattle.model.proofs.Bounds.{mapBlocks-small}
-use Rattle.model.proofs.Order.{standing-first, unless-refused}
+use Rattle.model.proofs.Order.{standing-first}
 
 -- ---- the tape bytes that a close needs
 
@@ -33,7 +29,8 @@ closeNeed-covers g k v l = omega (arith, mul-le-mul-left {m = v + 1} {n = k + 1}
 -- ---- refusals
 
 module _ (device : ℕ) (h : Held) (tape : ℕ) where
-  pub closeRefusal-first : let first = standing device (length (h .maps)) (length (h .owners)) (h .session) 0 in 0 < first → first ≡ closeRefusal device h tape
+  pub closeRefusal-first : let first = standing device (length (h .maps)) (length (h .owners)) (h .session) 0 in
+      0 < first → first ≡ closeRefusal device h tape
   unfolding closeRefusal
   closeRefusal-first l = sym (standing-first device (length (h .maps)) (length (h .owners)) (h .session) l _)
 
@@ -56,16 +53,19 @@ module _ (device : ℕ) (h : Held) (tape : ℕ) where
     unfolding closeRefusal refuse
     closeRefusal-served good enough = sym (standing-stands device _ _ (h .session) _ stands ∙ rw (good, enough) refl)
 
--- ---- outcomes
+-- A close that is not refused is not refused with as many bytes elsewhere.
+pub closeRefusal-moved : (device : ℕ) (maps owners : List ℕ) (s : Session) (at tape at′ tape′ : ℕ)
+    → closeRefusal device (held maps owners at s) tape ≡ 0
+    → short tape′ at′ (closeNeed s) ≡ false → closeRefusal device (held maps owners at′ s) tape′ ≡ 0
+unfolding closeRefusal
+closeRefusal-moved device maps owners s at tape at′ tape′ e enough =
+    let p = standing-none device (length maps) (length owners) s _ e in
+    let good = refuse-none _ _ _ (p .1) .0 in
+    sym (closeRefusal-served device (held maps owners at′ s) tape′ (p .0) good enough)
+
+-- ---- the outcome
 
 module _ (device : List ℕ) (h : Held) (tape : List ℕ) where
-  pub close-refused : {a : Answer} {r : Refusal} → a ≡ answer.Refused r → answerNumber a ≡ closeRefusal (length device) h (length tape)
-      → Leaves CloseResult (closeModel (length device) h tape) device (closeResult a) device (h .maps) (h .owners) (h .position) (h .session)
-  unfolding closeModel patched
-  close-refused {r = r} e number =
-      rw (← number, e, unless-refused _ _ _ (refusal-positive r))
-      (record { answered = refl; stored = refl; mapped = refl; owned = refl; moved = refl; handed = refl })
-
   pub close-served : closeRefusal (length device) h (length tape) ≡ 0 → closeModel (length device) h tape ≡ closed h tape
   unfolding closeModel
   close-served e = rw e refl

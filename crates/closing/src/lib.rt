@@ -1,7 +1,7 @@
 // Close: the maps of volumes 0 to k go to the device, and everything held is wiped.
 //
-// `close` is the public call: any arguments, the tape position lent as one record. It is thin: its number is lent to
-// `close_by`, which does the work.
+// `close` is the public call: any arguments, the tape position lent as one record. It is a straight line: the refusals, the
+// draw, and the carrying out. Its proof is made by `tools/record-walk`, anew when its code changes.
 ghost use mathlib.Core.Path.{_≡_};
 ghost use Prim.Native.Nat.{_+_, _-_, _*_, _≤_, _<_};
 ghost use lib.ListN.{length};
@@ -12,6 +12,8 @@ ghost use Rattle.model.specs.Geometry.{Allowed, mapBlocks, deviceLength, mapSta
 ghost use Rattle.model.specs.Session.{held, entry, unmapped};
 ghost use Rattle.model.specs.Close.{CloseResult, mapText, mapBlock, mapBytes, closeRefusal, closedSession, closeModel};
 ghost use Rattle.model.specs.Answers.{closeResult, Leaves};
+ghost use Rattle.model.specs.Conditions.{Usable};
+ghost use Rattle.closing.specs.Carried.{needed, carried};
 use model::Geometry;
 use model::Reply;
 use model::Session;
@@ -169,24 +171,34 @@ fn closed_session(session: Session) -> Session
     }
 }
 
-// The work of `close`, on the number of the tape position.
-pub fn close_by(
+// The tape bytes that a close draws: none where it is refused.
+fn close_need(answer: Answer, session: Session) -> usize
+    requires { ⌜ (answerNumber answer ≡ 0 → Usable session) ⌝ }
+    ensures { λ r. ⌜ r ≡ needed answer session ⌝ }
+{
+    if let Answer::Refused(_) = answer {
+        return 0;
+    }
+    16 * places::map_blocks(session.geometry) * (session.k + 1)
+}
+
+// A close is carried out, with the tape bytes that it needs drawn; where it is refused nothing is done.
+fn carry_out(
     device: &mut [u8],
     maps: &mut [u32],
     owners: &mut [u8],
-    tape: &[u8],
-    at: &mut usize,
+    drawn: &[u8],
+    answer: Answer,
     session: Session,
 ) -> Reply
-    ensures { λ r. ⌜ Leaves CloseResult (closeModel (length (now (device .entry)))
-        (held (now (maps .entry)) (now (owners .entry)) (now (at .entry)) session) (now (tape .entry)))
-        (now (device .entry)) (closeResult (r .answer)) (now (device .exit)) (now (maps .exit)) (now (owners .exit)) (now (at .exit)) (r .session) ⌝ }
+    requires { ⌜ (answerNumber answer ≡ 0 → closeRefusal (length (now device)) (held (now maps) (now owners) 0 session) (length (now drawn)) ≡ 0) ⌝ }
+    ensures { λ r. ⌜ Leaves CloseResult (carried answer (held (now (maps .entry)) (now (owners .entry)) 0 session) (now (drawn .entry)))
+        (now (device .entry)) (closeResult (r .answer)) (now (device .exit)) (now (maps .exit)) (now (owners .exit)) (needed answer session)
+        (r .session) ⌝ }
 {
-    let position = *at;
-    let bad = close_refusal(device.len(), maps, owners, session, position, tape.len());
-    if let Answer::Refused(_) = bad {
+    if let Answer::Refused(_) = answer {
         return Reply {
-            answer: bad,
+            answer: answer,
             session: session,
         };
     }
@@ -198,27 +210,18 @@ pub fn close_by(
     while v < k + 1 {
         let from = 32 * v;
         let to = from + 32;
-        store_maps(
-            device,
-            maps,
-            g,
-            &keys[from..to],
-            tape,
-            position + 16 * (m * v),
-            v,
-        );
+        store_maps(device, maps, g, &keys[from..to], drawn, 16 * (m * v), v);
         v += 1;
     }
     tables::unmap(maps);
     places::clear(owners);
-    *at = position + 16 * m * (k + 1);
     Reply {
         answer: Answer::Served,
         session: closed_session(session),
     }
 }
 
-// Close, the tape position lent as a record. Walked by hand.
+// Close, the tape position lent as a record: one draw for all map blocks.
 pub fn close(
     device: &mut [u8],
     maps: &mut [u32],
@@ -232,5 +235,7 @@ pub fn close(
         (now (device .entry)) (closeResult (r .answer)) (now (device .exit)) (now (maps .exit)) (now (owners .exit)) (now (position .exit) .at)
         (r .session) ⌝ }
 {
-    close_by(device, maps, owners, tape, &mut position.at, session)
+    let answer = close_refusal(device.len(), maps, owners, session, position.at, tape.len());
+    let drawn = tape::draw(tape, position, close_need(answer, session));
+    carry_out(device, maps, owners, drawn, answer, session)
 }

@@ -4,6 +4,7 @@ use mathlib.Core.Path.{_≡_}
 use mathlib.Core.List.{List}
 use lib.ListN.{length}
 use Rattle.refusals.specs.Numbers.{refusalNumber}
+use Rattle.model.specs.declared.Session.{Session}
 use Rattle.model.specs.Session.{Held, Outcome, geometry, sliceOf, offsetOf, idle}
 use Rattle.model.specs.Conditions.{Enough}
 use Rattle.model.specs.Write.{WriteResult, rewritten, claimed, writeRefusal, writeModel}
@@ -27,3 +28,30 @@ Decided device h i a text perm tape (Rewrite ψ) =
 Decided device h i a text perm tape (Claim ψ place) =
     Serves device h i a text perm tape (claimed h i (sliceOf (geometry h) a) (offsetOf (geometry h) a) ψ place text tape) ψ (geometry h .b)
     × (place < geometry h .p)
+
+-- The tape bytes that a decision draws.
+abbrev pub needed : Session → Decision → ℕ
+needed s (Refused r probes) = 0
+needed s (Rewrite ψ) = 16
+needed s (Claim ψ place) = s .geometry .b
+
+-- What carrying a decision out comes to, its bytes drawn from a tape.
+abbrev pub carried : Held → (i a : ℕ) → (text tape : List ℕ) → Decision → Outcome WriteResult
+carried h i a text tape (Refused r probes) = idle h (WriteResult.Refused (refusalNumber r) probes)
+carried h i a text tape (Rewrite ψ) = rewritten h i ψ (offsetOf (geometry h) a) text tape
+carried h i a text tape (Claim ψ place) = claimed h i (sliceOf (geometry h) a) (offsetOf (geometry h) a) ψ place text tape
+
+-- A slice that can be written: no refusal applies, for some length of the permutation, the slice is below P, and the bytes
+-- are drawn.
+pub record Fits (device : ℕ) (maps owners : List ℕ) (s : Session) (i a text drawn ψ need : ℕ) : Type 0 where
+  pub perm : ℕ
+  pub none : writeRefusal device maps owners s i a text perm ≡ 0
+  pub slice : ψ < s .geometry .p
+  pub drawn-all : drawn ≡ need
+
+-- What carrying a decision out needs.
+abbrev pub Ready : (device : ℕ) → (maps owners : List ℕ) → Session → (i a text drawn : ℕ) → Decision → Type 0
+Ready device maps owners s i a text drawn (Refused r probes) = Unit {0}
+Ready device maps owners s i a text drawn (Rewrite ψ) = Fits device maps owners s i a text drawn ψ 16
+Ready device maps owners s i a text drawn (Claim ψ place) =
+    Fits device maps owners s i a text drawn ψ (s .geometry .b) × (place < s .geometry .p)

@@ -8,7 +8,7 @@ ghost use lib.ListN.{length};
 ghost use Rattle.refusals.specs.Numbers.{answerNumber};
 ghost use Rattle.model.specs.Session.{held};
 ghost use Rattle.model.specs.Write.{writeRefusal};
-ghost use Rattle.deciding.specs.Decided.{Decided};
+ghost use Rattle.deciding.specs.Decided.{Decided, needed};
 use model::Search;
 use model::Session;
 use refusals::Answer;
@@ -111,6 +111,27 @@ pub fn decide(
                 slice: slice,
                 place: place,
             }
+        }
+    }
+}
+
+// The tape bytes that a decision draws.
+pub fn need(decision: Decision, session: Session) -> usize
+    ensures { λ r. ⌜ r ≡ needed session decision ⌝ }
+{
+    let g = session.geometry;
+    match decision {
+        Decision::Refused {
+            refusal: _,
+            probes: _,
+        } => {
+            return 0;
+        }
+        Decision::Rewrite(_) => {
+            return 16;
+        }
+        Decision::Claim { slice: _, place: _ } => {
+            return g.b;
         }
     }
 }

@@ -252,7 +252,7 @@ fn show_write(
     say(b"write block 5 of volume ");
     say_number(volume);
     say(b": ");
-    let w = writing::write_by(
+    let w = lending::write_at(
         device,
         maps,
         owners,
@@ -315,7 +315,7 @@ fn show_close(
     session: Session,
 ) -> Session {
     say(b"close: ");
-    let r = closing::close_by(device, maps, owners, tape, at, session);
+    let r = lending::close_at(device, maps, owners, tape, at, session);
     let answer = r.answer;
     say_answer(answer);
     say(b", tape position ");

@@ -344,7 +344,7 @@ pub extern "C" fn hiwalgam_write(
         return 13;
     }
     let session = session_of(b, s, p, k, keys, opened != 0);
-    let w = writing::write_by(
+    let w = lending::write_at(
         device,
         maps,
         owners,
@@ -392,7 +392,7 @@ pub extern "C" fn hiwalgam_close(
     }
     let was = *opened;
     let session = session_of(b, s, p, k, keys, was != 0);
-    let r = closing::close_by(device, maps, owners, tape, position, session);
+    let r = lending::close_at(device, maps, owners, tape, position, session);
     let after = r.session;
     hand_keys(after, keys);
     *opened = bit_of(after.opened);

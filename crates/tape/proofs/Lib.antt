@@ -1,1 +1,4 @@
+pub mod Draws
 pub mod Lent
+pub mod Shared
+pub mod Steps

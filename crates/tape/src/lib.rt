@@ -1,13 +1,15 @@
 // The tape of random bytes and its position (document 01 calls it the tape mark): one small record that the caller lends
 // and every draw moves on.
 //
-// `draw` works on the lent record and is thin: it lends its number to `draw_by`, which does the work and which the
-// engine's inner functions call.
+// `draw` is the one function that moves it. Its proof is made by `tools/record-walk`, anew when its code changes.
 ghost use mathlib.Core.Path.{_≡_};
-ghost use Prim.Native.Nat.{_+_, _≤_};
+ghost use mathlib.Core.List.{[]};
+ghost use Prim.Native.Nat.{_+_, _-_, _<_, _≤_};
 ghost use lib.ListN.{length};
-ghost use Rattle.model.specs.Parts.{part};
+ghost use lib.Dec.{ltb};
+ghost use Rattle.model.specs.Parts.{choose, part};
 ghost use Rattle.model.specs.Session.{short};
+ghost use Rattle.tape.specs.Draw.{drawn, past};
 use model::TapePosition;
 
 // Whether the position is past the end of a tape, or fewer bytes are left than needed; compared by subtraction.
@@ -20,23 +22,34 @@ pub fn is_short(tape: usize, position: usize, need: usize) -> bool
     tape - position < need
 }
 
-// The next n bytes of the tape; the position moves past them.
-pub fn draw_by<'a>(tape: &'a [u8], at: &mut usize, n: usize) -> &'a [u8]
-    requires { ⌜ now at + n ≤ length (now tape) ⌝ }
-    ensures drawn { λ r. ⌜ now r ≡ part (now (at .entry)) n (now (tape .entry)) ⌝ }
-    ensures moved { λ r. ⌜ now (at .exit) ≡ now (at .entry) + n ⌝ }
+// Where a draw of n bytes leaves the position: past them, or where it was where fewer are left.
+fn end_of(tape: usize, from: usize, n: usize) -> usize
+    ensures { λ r. ⌜ r ≡ choose (short tape from n) from (from + n) ⌝ }
 {
-    let from = *at;
-    let end = from + n;
-    *at = end;
-    &tape[from..end]
+    if is_short(tape, from, n) {
+        return from;
+    }
+    from + n
 }
 
-// The draw on the lent record. Walked by hand.
-pub fn draw<'a>(tape: &'a [u8], position: &mut TapePosition, n: usize) -> &'a [u8]
-    requires { ⌜ now position .at + n ≤ length (now tape) ⌝ }
-    ensures drawn { λ r. ⌜ now r ≡ part (now (position .entry) .at) n (now (tape .entry)) ⌝ }
-    ensures moved { λ r. ⌜ now (position .exit) .at ≡ now (position .entry) .at + n ⌝ }
+// The bytes between two positions.
+fn between<'a>(tape: &'a [u8], from: usize, end: usize) -> &'a [u8]
+    requires { ⌜ (from < end → end ≤ length (now tape)) ⌝ }
+    ensures { λ r. ⌜ now r ≡ choose (ltb from end) (part from (end - from) (now (tape .entry))) [] ⌝ }
 {
-    draw_by(tape, &mut position.at, n)
+    if from < end {
+        return &tape[from..end];
+    }
+    &tape[0..0]
+}
+
+// The next n bytes of the tape, and the position moves past them; nothing, and it stays, where fewer are left.
+pub fn draw<'a>(tape: &'a [u8], position: &mut TapePosition, n: usize) -> &'a [u8]
+    ensures { λ r. ⌜ (now r ≡ drawn (now (tape .entry)) (now (position .entry) .at) n)
+        × (now (position .exit) .at ≡ past (now (tape .entry)) (now (position .entry) .at) n) ⌝ }
+{
+    let from = position.at;
+    let end = end_of(tape.len(), from, n);
+    position.at = end;
+    between(tape, from, end)
 }

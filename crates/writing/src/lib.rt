@@ -1,8 +1,8 @@
 // Write: rewriting a mapped block and claiming a slice for an unmapped one.
 //
-// `write` is the public call: any arguments, the tape position lent as one record. It is thin: its number is lent to
-// `write_by`, which does the work. All tests come before the first byte is written and before the position moves: they are
-// `deciding::decide`.
+// `write` is the public call: any arguments, the tape position lent as one record. It is a straight line: what is decided
+// (`deciding::decide`, all tests, before the first byte is written and before the position moves), the draw, and the
+// carrying out. Its proof is made by `tools/record-walk`, anew when its code changes.
 ghost use mathlib.Core.Path.{_≡_};
 ghost use Prim.Native.Nat.{_+_, _*_, _<_};
 ghost use lib.ListN.{length};
@@ -12,6 +12,7 @@ ghost use Rattle.model.specs.Geometry.{Allowed, deviceLength, sliceStart, ivSta
 ghost use Rattle.model.specs.Session.{held};
 ghost use Rattle.model.specs.Write.{WriteResult, claimedBytes, writeModel};
 ghost use Rattle.model.specs.Answers.{writeResult, Leaves};
+ghost use Rattle.deciding.specs.Decided.{needed, carried, Ready};
 use deciding::Decision;
 use model::Change;
 use model::Geometry;
@@ -76,40 +77,28 @@ fn claim(
     }
 }
 
-// The work of `write`, on the number of the tape position.
+// What was decided is carried out, with the tape bytes that it needs drawn.
 //
 // No claim can take a slice that another volume holds: the slice is the model's `firstFree` of the owner table as it
 // stands at entry (clause `answered`), and the same call sets its owner (clause `owned`), so that the next claim's search
 // finds it held.
-pub fn write_by(
+fn carry_out(
     device: &mut [u8],
     maps: &mut [u32],
     owners: &mut [u8],
-    perm: &[u32],
-    tape: &[u8],
-    at: &mut usize,
+    drawn: &[u8],
+    decision: Decision,
     session: Session,
     volume: usize,
     address: usize,
     text: &[u8],
 ) -> Written
-    ensures { λ r. ⌜ Leaves WriteResult (writeModel (length (now (device .entry)))
-        (held (now (maps .entry)) (now (owners .entry)) (now (at .entry)) session) volume address (now (text .entry)) (now (perm .entry))
-        (now (tape .entry)))
-        (now (device .entry)) (writeResult (r .answer)) (now (device .exit)) (now (maps .exit)) (now (owners .exit)) (now (at .exit)) (r .session) ⌝ }
+    requires { ⌜ Ready (length (now device)) (now maps) (now owners) session volume address (length (now text)) (length (now drawn)) decision ⌝ }
+    ensures { λ r. ⌜ Leaves WriteResult (carried (held (now (maps .entry)) (now (owners .entry)) 0 session) volume address (now (text .entry))
+        (now (drawn .entry)) decision)
+        (now (device .entry)) (writeResult (r .answer)) (now (device .exit)) (now (maps .exit)) (now (owners .exit)) (needed session decision)
+        (r .session) ⌝ }
 {
-    let decision = deciding::decide(
-        device.len(),
-        maps,
-        owners,
-        perm,
-        tape.len(),
-        *at,
-        session,
-        volume,
-        address,
-        text.len(),
-    );
     let g = session.geometry;
     match decision {
         Decision::Refused { refusal, probes } => refused(refusal, probes, session),
@@ -121,7 +110,7 @@ pub fn write_by(
                 device,
                 g,
                 &keys[from..to],
-                tape::draw_by(tape, at, 16),
+                drawn,
                 slice,
                 address % g.s,
                 text,
@@ -136,7 +125,7 @@ pub fn write_by(
                 device,
                 g,
                 &keys[from..to],
-                tape::draw_by(tape, at, g.b),
+                drawn,
                 slice,
                 address % g.s,
                 text,
@@ -172,7 +161,7 @@ fn served(change: Change, probes: usize, session: Session) -> Written
     }
 }
 
-// Write of a block, the tape position lent as a record. Walked by hand.
+// Write of a block, the tape position lent as a record.
 pub fn write(
     device: &mut [u8],
     maps: &mut [u32],
@@ -191,13 +180,25 @@ pub fn write(
         (now (device .entry)) (writeResult (r .answer)) (now (device .exit)) (now (maps .exit)) (now (owners .exit)) (now (position .exit) .at)
         (r .session) ⌝ }
 {
-    write_by(
-        device,
+    let decision = deciding::decide(
+        device.len(),
         maps,
         owners,
         perm,
-        tape,
-        &mut position.at,
+        tape.len(),
+        position.at,
+        session,
+        volume,
+        address,
+        text.len(),
+    );
+    let drawn = tape::draw(tape, position, deciding::need(decision, session));
+    carry_out(
+        device,
+        maps,
+        owners,
+        drawn,
+        decision,
         session,
         volume,
         address,

@@ -26,8 +26,8 @@ returns-2 c =
     let called = copied .before .before .before .before .before .before .before .before .before in
     let made = called .before .before .before .before .before in
     let fit = made .before .before .before .if1 .left in
-    let left = rw (made .session-of .ensures) at (called .close-by .ensures) in
-    let number = c .answer-number .ensures ∙ closeNumber-answer (called .close-by .result .answer) in
+    let left = rw (made .session-of .ensures) at (called .close-at .ensures) in
+    let number = c .answer-number .ensures ∙ closeNumber-answer (called .close-at .result .answer) in
     record {
       number-is = choose-fit _ fit (number ∙ ap closeNumber (left .answered));
       stored = choose-fit _ fit (left .stored);

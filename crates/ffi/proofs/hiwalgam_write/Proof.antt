@@ -25,7 +25,7 @@ returns-2 c =
     let called = c .before .before .before .before .before .before .before .before .before .before in
     let made = called .before .before .before .before .before in
     let fit = made .before .if1 .left in
-    let left = rw (made .session-of .ensures) at (called .write-by .ensures) in
+    let left = rw (made .session-of .ensures) at (called .write-at .ensures) in
     let handed = c .hand-write .ensures in
     record {
       number-is = choose-fit _ fit (handed .0 ∙ ap writeNumber (left .answered));

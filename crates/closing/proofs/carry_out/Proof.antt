@@ -1,0 +1,170 @@
+-- `closing::carry_out` meets its contract. After v turns the maps of the first v volumes are stored. Assumes nothing.
+use mathlib.Core.Path.{_≡_, refl, sym, ap, ap₂, _∙_}
+use mathlib.Core.List.{List}
+use Prim.Native.Nat.{ℕ, _+_, _-_, _*_, _≤_}
+use native.Mathlib.Nat.{zero-add}
+use native.Mathlib.Omega.{arith}
+use lib.ListN.{length, replicate}
+use borrow.Author.Needs.{needs}
+use Rattle.refusals.specs.Numbers.{answerNumber}
+use Rattle.model.specs.Parts.{overlay, patched}
+use Rattle.model.specs.Geometry.{mapBlocks, mapStart}
+use Rattle.model.specs.Session.{held, keyOf, unmapped}
+use Rattle.model.specs.Close.{mapBytes, mapPatches}
+use Rattle.model.proofs.Parts.{part-lent, part-lent-length, overlay-length}
+use Rattle.model.proofs.Requests.{Closable, closeRefusal-none}
+use Rattle.closing.proofs.MapBlocks.{mapPatches-turn}
+use Rattle.closing.proofs.Outcomes.{closeNeed-small, closeNeed-covers}
+use Rattle.closing.proofs.carry_out.Statement.{statement}
+use Rattle.closing.proofs.carry_out.Tie as tie
+
+abbrev Inv-loop : tie.InvT-loop
+Inv-loop device₀ maps owners drawn session g k keys m v₀ device v =
+    (v ≤ k + 1) × (device ≡ patched (mapPatches (held maps owners 0 session) drawn v) device₀) × (length device ≡ length device₀)
+
+abbrev μ-loop : tie.MeasureT-loop
+μ-loop device₀ maps owners drawn session g k keys m v₀ device v = k + 1 - v
+
+-- ---- past the refusals
+
+closable : (c : tie.After-enum-told2 Inv-loop μ-loop)
+    → let a = c .before .before .before .before .before .before .args in
+    Closable (length (a .device .now)) (held (a .maps .now) (a .owners .now) 0 (a .session)) (length (a .drawn .now))
+closable c =
+    let s = c .before .before .before .before .before .before in
+    closeRefusal-none _ (held (s .args .maps .now) (s .args .owners .now) 0 (s .args .session)) _
+    (s .pre (ap answerNumber (c .enum-told2 .given .1)))
+
+keys-long : (c : tie.Start Inv-loop μ-loop) → length (c .args .session .keys) ≡ 480
+keys-long c = search needs
+
+-- The bytes needed are drawn, and few.
+enough : (c : tie.After-map-blocks Inv-loop μ-loop)
+    → let a = c .before .before .before .before .before .before .before .before .before .args in
+    let need = 16 * c .map-blocks .result * (a .session .k + 1) in
+    (need ≤ 4080) × (need ≤ length (a .drawn .now)) × (a .session .k ≤ 14) × (length (a .session .keys) ≡ 480)
+enough c =
+    let told = c .before .before .before in
+    let s = told .before .before .before .before .before .before .args .session in
+    let ok = closable told in
+    let usable = ok .stands .usable in (
+      rw (c .map-blocks .ensures) (omega (arith, closeNeed-small (s .geometry) (usable .allowed) (s .k) (usable .top))),
+      rw (c .map-blocks .ensures) (rw (zero-add _) at (ok .enough)),
+      usable .top,
+      keys-long (told .before .before .before .before .before .before),
+    )
+
+-- And so for volume v.
+volume-enough : (c : tie.In-loop Inv-loop μ-loop)
+    → let counted = c .before .before in
+    let s = counted .before .before .before .before .before .before .before .before .before .args .session in
+    let m = counted .map-blocks .result in
+    16 * (m * c .before .loop .v) + 16 * m ≤ 16 * m * (s .k + 1)
+volume-enough c =
+    let counted = c .before .before in
+    let s = counted .before .before .before .before .before .before .before .before .before .args .session in
+    rw (counted .map-blocks .ensures) (closeNeed-covers (s .geometry) (s .k) (c .before .loop .v) (c .loop-test .taken))
+
+-- ---- needs
+
+returns : tie.Need-returns Inv-loop μ-loop
+unfolding patched
+returns c =
+    rw (c .enum-told .given .1) (record { answered = refl; stored = refl; mapped = refl; owned = refl; moved = refl; handed = refl })
+
+loop-holds : tie.Need-loop-holds Inv-loop μ-loop
+unfolding patched mapPatches
+loop-holds c = (search needs, refl, refl)
+
+store-maps-requires : tie.Need-store-maps-requires Inv-loop μ-loop
+store-maps-requires c κs =
+    let turn = c .before .before .before .before in
+    let counted = c .before .before .before .before .before .before in
+    let s = counted .before .before .before .before .before .before .before .before .before .args .session in
+    let l = c .before .before .before .before .before .loop in
+    let ok = closable (c .before .before .before .before .before .before .before .before .before) .stands in
+    let w = enough counted in
+    let on = volume-enough turn in (
+      ok .usable .allowed,
+      ok .tables .0,
+      part-lent-length (s .keys) (32 * l .v) 32 (omega (arith, turn .loop-test .taken)),
+      omega (arith, turn .loop-test .taken),
+      omega (arith, counted .map-blocks .ensures),
+      l .inv .2 ∙ ok .long,
+    )
+
+loop-again : tie.Need-loop-again Inv-loop μ-loop
+loop-again c =
+    let stored = c .before .before in
+    let counted = c .before .before .before .before .before .before .before .before .before in
+    let a = counted .before .before .before .before .before .before .before .before .before .args in
+    let l = c .before .before .before .before .before .before .before .before .loop in
+    let g = a .session .geometry in
+    let start = mapStart g (l .v) in
+    let bytes = mapBytes (a .maps .now) g (keyOf (a .session) (l .v)) (a .drawn .now) (0 + 16 * (mapBlocks g * l .v)) (l .v) in
+    let s : stored .store-maps .last .0 ≡ overlay (l .device) start bytes =
+    stored .store-maps .ensures
+    ∙ ap₂ (λ (key : List ℕ) (m : ℕ). overlay (l .device) start (mapBytes (a .maps .now) g key (a .drawn .now) (16 * (m * l .v)) (l .v)))
+    (part-lent (a .session .keys) (32 * l .v) 32 refl) (counted .map-blocks .ensures)
+    ∙ ap (λ (at : ℕ). overlay (l .device) start (mapBytes (a .maps .now) g (keyOf (a .session) (l .v)) (a .drawn .now) at (l .v)))
+    (sym (zero-add _)) in (
+      omega (arith, c .before .before .before .before .before .before .before .loop-test .taken),
+      s
+          ∙ ap (λ (d : List ℕ). overlay d start bytes) (l .inv .1)
+          ∙ mapPatches-turn (held (a .maps .now) (a .owners .now) 0 (a .session)) (a .drawn .now) (a .device .now) (l .v),
+      ap length s ∙ overlay-length (l .device) start bytes ∙ l .inv .2,
+    )
+
+returns-2 : tie.Need-returns-2 Inv-loop μ-loop
+returns-2 c =
+    let l = c .before .before .before .before .before .before .before .before .before .before .loop in
+    let told = c .before .before .before .before .before .before .before .before .before .before .before .before .before .before in
+    let a = told .before .before .before .before .before .before .args in
+    let h = held (a .maps .now) (a .owners .now) 0 (a .session) in
+    let tables = closable told .stands .tables in
+    let all : l .v ≡ a .session .k + 1 = omega arith in
+    rw (told .enum-told2 .given .1)
+    (record {
+      answered = refl;
+      stored = l .inv .1 ∙ ap (λ (n : ℕ). patched (mapPatches h (a .drawn .now) n) (a .device .now)) all;
+      mapped = c .before .before .before .before .before .before .before .unmap .ensures ∙ ap (λ (n : ℕ). replicate n unmapped) (tables .0);
+      owned = c .before .before .before .clear .ensures ∙ ap (λ (n : ℕ). replicate n 0) (tables .1);
+      moved = sym (zero-add _);
+      handed = c .closed-session .ensures;
+    })
+
+map-blocks-requires : tie.Need-map-blocks-requires Inv-loop μ-loop
+map-blocks-requires c κs = closable (c .before .before) .stands .usable .allowed
+
+add-loop : tie.Need-add-loop Inv-loop μ-loop
+add-loop c = omega (arith, enough (c .before))
+
+mul-from : tie.Need-mul-from Inv-loop μ-loop
+mul-from c = omega (arith, enough (c .before .before), c .loop-test .taken)
+
+add-to : tie.Need-add-to Inv-loop μ-loop
+add-to c = omega (arith, enough (c .before .before), c .loop-test .taken)
+
+part-store-maps-end : tie.Need-part-store-maps-end Inv-loop μ-loop
+part-store-maps-end c = omega (arith, enough (c .before .before .before .before .before), c .before .before .before .loop-test .taken)
+
+mul-store-maps : tie.Need-mul-store-maps Inv-loop μ-loop
+mul-store-maps c = omega (arith, enough (c .before .before .before .before .before .before), volume-enough (c .before .before .before .before))
+
+mul-store-maps-2 : tie.Need-mul-store-maps-2 Inv-loop μ-loop
+mul-store-maps-2 c = omega (arith, enough (c .before .before .before .before .before .before), volume-enough (c .before .before .before .before))
+
+add-v : tie.Need-add-v Inv-loop μ-loop
+add-v c =
+    let turn = c .before .before .before .before .before .before .before in
+    omega (arith, enough (turn .before .before), turn .loop-test .taken)
+
+loop-less : tie.Need-loop-less Inv-loop μ-loop
+loop-less c = omega (arith, c .before .before .before .before .before .before .before .loop-test .taken)
+
+pub carry-out-spec : {M : Type 1} → statement M
+carry-out-spec =
+    tie.close
+    (tie.spec Inv-loop μ-loop (λ c. search needs) returns (λ c. search needs) map-blocks-requires loop-holds add-loop mul-from add-to
+    (λ c. search needs) (λ c. search needs) part-store-maps-end mul-store-maps mul-store-maps-2 store-maps-requires add-v loop-less loop-again
+    (λ c κs. search needs) (λ c κs. search needs) (λ c κs. search needs) (λ c. search needs) (λ c. search needs) (λ c. search needs) returns-2)

@@ -1,0 +1,67 @@
+// The calls that draw, for a caller that has the tape position as a plain number: the C functions and the demonstration.
+//
+// The record is made in a local, lent to the call, and its number read back. The proofs are made by `tools/record-walk`, so
+// that callers need none of their own for lending a record.
+ghost use lib.ListN.{length};
+ghost use Rattle.model.specs.Session.{held};
+ghost use Rattle.model.specs.Write.{WriteResult, writeModel};
+ghost use Rattle.model.specs.Close.{CloseResult, closeModel};
+ghost use Rattle.model.specs.Answers.{writeResult, closeResult, Leaves};
+use model::Reply;
+use model::Session;
+use model::TapePosition;
+use model::Written;
+
+// `writing::write` with the tape position as a number.
+pub fn write_at(
+    device: &mut [u8],
+    maps: &mut [u32],
+    owners: &mut [u8],
+    perm: &[u32],
+    tape: &[u8],
+    at: &mut usize,
+    session: Session,
+    volume: usize,
+    address: usize,
+    text: &[u8],
+) -> Written
+    ensures { λ r. ⌜ Leaves WriteResult (writeModel (length (now (device .entry)))
+        (held (now (maps .entry)) (now (owners .entry)) (now (at .entry)) session) volume address (now (text .entry)) (now (perm .entry))
+        (now (tape .entry)))
+        (now (device .entry)) (writeResult (r .answer)) (now (device .exit)) (now (maps .exit)) (now (owners .exit)) (now (at .exit)) (r .session) ⌝ }
+{
+    let mut position = TapePosition { at: *at };
+    let w = writing::write(
+        device,
+        maps,
+        owners,
+        perm,
+        tape,
+        &mut position,
+        session,
+        volume,
+        address,
+        text,
+    );
+    *at = position.at;
+    w
+}
+
+// `closing::close` with the tape position as a number.
+pub fn close_at(
+    device: &mut [u8],
+    maps: &mut [u32],
+    owners: &mut [u8],
+    tape: &[u8],
+    at: &mut usize,
+    session: Session,
+) -> Reply
+    ensures { λ r. ⌜ Leaves CloseResult (closeModel (length (now (device .entry)))
+        (held (now (maps .entry)) (now (owners .entry)) (now (at .entry)) session) (now (tape .entry)))
+        (now (device .entry)) (closeResult (r .answer)) (now (device .exit)) (now (maps .exit)) (now (owners .exit)) (now (at .exit)) (r .session) ⌝ }
+{
+    let mut position = TapePosition { at: *at };
+    let r = closing::close(device, maps, owners, tape, &mut position, session);
+    *at = position.at;
+    r
+}

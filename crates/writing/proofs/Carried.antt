@@ -1,0 +1,87 @@
+-- Laws for the walk of `write`: what a decision, its draw and its carrying out come to is the model's write. Assumes nothing.
+--     carry-out-asks     what carrying out needs, from what was decided and drawn
+--     write-ensures      what it leaves is what the model's write leaves
+use Prim.Native.Nat.{ℕ}
+use mathlib.Core.Path.{_≡_, refl, sym, ap, _∙_}
+use mathlib.Core.List.{List}
+use lib.ListN.{length}
+use lib.Seq.{take-length}
+use Rattle.model.specs.declared.Session.{Session}
+use Rattle.model.specs.declared.Written.{Written}
+use Rattle.model.specs.Parts.{part}
+use Rattle.model.specs.Session.{held}
+use Rattle.model.specs.Write.{WriteResult, writeModel}
+use Rattle.model.specs.Answers.{writeResult, Leaves}
+use Rattle.tape.specs.Draw.{drawn, past}
+use Rattle.tape.proofs.Draws.{drawn-enough, drawn-length, past-enough, past-none}
+use Rattle.deciding.specs.declared.Decision.{Decision}
+use Rattle.deciding.specs.declared.Decision.the-variants.{Refused, Rewrite, Claim}
+use Rattle.deciding.specs.Decided.{Decided, needed, carried, Ready}
+
+pub part-all : (s : List ℕ) (n : ℕ) → length s ≡ n → part 0 n s ≡ s
+part-all s n e = rw (sym e) (take-length s)
+
+module _ (device : ℕ) (maps owners text perm tape : List ℕ) (s : Session) (i a at : ℕ) where
+  abbrev Says : Decision → Type 0
+  Says d = Decided device (held maps owners at s) i a text perm tape d
+
+  ready : (d : Decision) → Says d → Ready device maps owners s i a (length text) (length (drawn tape at (needed s d))) d
+  ready (Refused r probes) e = tt
+  ready (Rewrite ψ) e =
+      record { perm = length perm; none = e .none; slice = e .slice; drawn-all = drawn-length tape at 16 (e .enough) }
+  ready (Claim ψ place) e = (
+    record { perm = length perm; none = e .0 .none; slice = e .0 .slice; drawn-all = drawn-length tape at (s .geometry .b) (e .0 .enough) },
+    e .1,
+  )
+
+  module _ (before : List ℕ) (answer : WriteResult) (device′ maps′ owners′ : List ℕ) (s′ : Session) where
+    leaves : (d : Decision) → Says d
+        → Leaves WriteResult (carried (held maps owners 0 s) i a text (drawn tape at (needed s d)) d) before answer device′ maps′ owners′
+        (needed s d) s′
+        → Leaves WriteResult (writeModel device (held maps owners at s) i a text perm tape) before answer device′ maps′ owners′
+        (past tape at (needed s d)) s′
+    leaves (Refused r probes) e l =
+        rw e
+        (record { answered = l .answered; stored = l .stored; mapped = l .mapped; owned = l .owned; moved = past-none tape at; handed = l .handed })
+    leaves (Rewrite ψ) e l =
+        let bytes = part-all (drawn tape at 16) 16 (drawn-length tape at 16 (e .enough)) ∙ drawn-enough tape at 16 (e .enough) in
+        rw (e .outcome)
+        (record {
+          answered = l .answered;
+          stored = rw bytes at (l .stored);
+          mapped = l .mapped;
+          owned = l .owned;
+          moved = past-enough tape at 16 (e .enough);
+          handed = l .handed;
+        })
+    leaves (Claim ψ place) e l =
+        let b = s .geometry .b in
+        let bytes = part-all (drawn tape at b) b (drawn-length tape at b (e .0 .enough)) ∙ drawn-enough tape at b (e .0 .enough) in
+        rw (e .0 .outcome)
+        (record {
+          answered = l .answered;
+          stored = rw bytes at (l .stored);
+          mapped = l .mapped;
+          owned = l .owned;
+          moved = past-enough tape at b (e .0 .enough);
+          handed = l .handed;
+        })
+
+module _ (device maps owners perm tape : List ℕ) (at : ℕ) (s : Session) (i a : ℕ) (text : List ℕ) (d : Decision)
+    (decided : (t u : List ℕ) → length t ≡ length text → length u ≡ length tape → Decided (length device) (held maps owners at s) i a t perm u d)
+    (n : ℕ) (need : n ≡ needed s d) (bytes : List ℕ) (at′ : ℕ) (draw : (bytes ≡ drawn tape at n) × (at′ ≡ past tape at n)) where
+  bytes-are : bytes ≡ drawn tape at (needed s d)
+  bytes-are = draw .0 ∙ ap (drawn tape at) need
+
+  pub carry-out-asks : Ready (length device) maps owners s i a (length text) (length bytes) d
+  carry-out-asks = rw bytes-are (ready (length device) maps owners text perm tape s i a at d (decided text tape refl refl))
+
+  pub write-ensures : (w : Written) (device′ maps′ owners′ : List ℕ)
+      → Leaves WriteResult (carried (held maps owners 0 s) i a text bytes d) device (writeResult (w .answer)) device′ maps′ owners′ (needed s d)
+      (w .session)
+      → Leaves WriteResult (writeModel (length device) (held maps owners at s) i a text perm tape) device (writeResult (w .answer)) device′ maps′
+      owners′ at′ (w .session)
+  write-ensures w device′ maps′ owners′ l =
+      rw (draw .1 ∙ ap (past tape at) need)
+      (leaves (length device) maps owners text perm tape s i a at device (writeResult (w .answer)) device′ maps′ owners′ (w .session) d
+      (decided text tape refl refl) (rw bytes-are at l))
