@@ -10,7 +10,7 @@ ghost use Rattle.refusals.specs.Numbers.{answerNumber};
 ghost use Rattle.model.specs.Parts.{overlay, choose};
 ghost use Rattle.model.specs.Geometry.{Allowed, mapBlocks, deviceLength, mapStart};
 ghost use Rattle.model.specs.Session.{held, entry, unmapped};
-ghost use Rattle.model.specs.Close.{CloseResult, mapText, mapBlock, mapBytes, closeRefusal, closedSession, closeModel};
+ghost use Rattle.model.specs.Close.{CloseResult, mapText, mapBlock, mapBytes, closeNeed, closeRefusal, closedSession, closeModel};
 ghost use Rattle.model.specs.Answers.{closeResult, Leaves};
 ghost use Rattle.model.specs.Conditions.{Usable};
 ghost use Rattle.closing.specs.Carried.{needed, carried};
@@ -131,6 +131,14 @@ fn store_maps(
 
 // ---- the call
 
+// The tape bytes that a served close draws: 16 for each map block of volumes 0 to k.
+fn maps_need(session: Session) -> usize
+    requires { ⌜ Usable session ⌝ }
+    ensures { λ r. ⌜ r ≡ closeNeed session ⌝ }
+{
+    16 * places::map_blocks(session.geometry) * (session.k + 1)
+}
+
 // All refusals of a close.
 fn close_refusal(
     device: usize,
@@ -151,7 +159,7 @@ fn close_refusal(
     if tables::any_bad(maps, g.p, (k + 1) * g.p) {
         return Answer::Refused(Refusal::BadEntry);
     }
-    if tape::is_short(tape, position, 16 * places::map_blocks(g) * (k + 1)) {
+    if tape::is_short(tape, position, maps_need(session)) {
         return Answer::Refused(Refusal::TapeShort);
     }
     Answer::Served
@@ -179,7 +187,7 @@ fn close_need(answer: Answer, session: Session) -> usize
     if let Answer::Refused(_) = answer {
         return 0;
     }
-    16 * places::map_blocks(session.geometry) * (session.k + 1)
+    maps_need(session)
 }
 
 // A close is carried out, with the tape bytes that it needs drawn; where it is refused nothing is done.

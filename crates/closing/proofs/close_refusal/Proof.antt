@@ -1,6 +1,6 @@
 -- `closing::close_refusal` meets its contract: each return is the first refusal whose test holds. Assumes nothing.
 use mathlib.Core.Path.{_≡_, sym, ap, _∙_}
-use Prim.Native.Nat.{ℕ, _+_, _*_, _≤_}
+use Prim.Native.Nat.{_+_, _*_, _≤_}
 use native.Mathlib.Nat.{mul-le-mul-right}
 use native.Mathlib.Omega.{arith}
 use lib.ListN.{length}
@@ -10,7 +10,7 @@ use Rattle.refusals.proofs.Positive.{answer-positive}
 use Rattle.model.specs.Session.{held, short}
 use Rattle.model.specs.Close.{closeNeed}
 use Rattle.model.proofs.Requests.{Stands, standing-none}
-use Rattle.closing.proofs.Outcomes.{closeNeed-small, closeRefusal-first, closeRefusal-bad, closeRefusal-short, closeRefusal-served}
+use Rattle.closing.proofs.Outcomes.{closeRefusal-first, closeRefusal-bad, closeRefusal-short, closeRefusal-served}
 use Rattle.closing.proofs.close_refusal.Statement.{statement}
 use Rattle.closing.proofs.close_refusal.Tie as tie
 
@@ -35,16 +35,6 @@ rows c =
       ok .usable .allowed .slices-most,
     )
 
--- The tape bytes needed are few.
-few : (c : tie.After-map-blocks)
-    → let s = c .before .before .before .before .before .before .before .before .before .before .args .session in
-    (16 * c .map-blocks .result * (s .k + 1) ≤ 4080) × (s .k ≤ 14)
-few c =
-    let told = c .before .before .before .before .before in
-    let s = told .before .before .before .before .before .args .session in
-    let ok = stands told .usable in
-    (rw (c .map-blocks .ensures) (omega (arith, closeNeed-small (s .geometry) (ok .allowed) (s .k) (ok .top))), ok .top)
-
 returns : tie.Need-returns
 returns c =
     let a = c .before .before .before .before .before .args in
@@ -66,7 +56,7 @@ tape-short : (c : tie.After-is-short)
     short (a .tape) (a .position) (closeNeed (a .session)) ≡ c .is-short .result
 tape-short c =
     let a = c .before .before .before .before .before .before .before .before .before .before .before .args in
-    sym (c .is-short .ensures ∙ ap (λ (m : ℕ). short (a .tape) (a .position) (16 * m * (a .session .k + 1))) (c .before .map-blocks .ensures))
+    sym (c .is-short .ensures ∙ ap (short (a .tape) (a .position)) (c .before .maps-need .ensures))
 
 returns-3 : tie.Need-returns-3
 returns-3 c =
@@ -89,5 +79,4 @@ close-refusal-spec =
     tie.close
     (tie.spec (λ c κs. search needs) (λ c. search needs) returns (λ c. search needs)
     (λ c. omega (arith, stands (c .before) .usable .top)) (λ c. omega (arith, rows c)) (λ c κs. omega (arith, rows c)) returns-2
-    (λ c κs. stands (c .before .before .before .before) .usable .allowed)
-    (λ c. omega (arith, few c)) (λ c. omega (arith, few c)) (λ c. omega (arith, few c)) (λ c κs. search needs) returns-3 returns-4)
+    (λ c κs. stands (c .before .before .before .before) .usable) (λ c κs. search needs) returns-3 returns-4)
