@@ -11,8 +11,7 @@ use Rattle.model.specs.Session.{keyOf, slot, sliceOf}
 use Rattle.model.specs.Answers.{writeResult}
 use Rattle.model.proofs.Parts.{part-lent, part-lent-length}
 use Rattle.model.proofs.Bounds.{offsetOf-lt}
-use Rattle.model.proofs.Requests.{Writable, writeRefusal-none}
-use Rattle.reading.proofs.Outcomes.{asked-slot}
+use Rattle.model.proofs.Requests.{Writable, writeRefusal-none, asked-slot}
 use Rattle.deciding.specs.declared.Decision.{Decision}
 use Rattle.deciding.specs.declared.Decision.the-variants.{Rewrite, Claim}
 use Rattle.deciding.specs.Decided.{Ready}
