@@ -39,7 +39,7 @@ fn map_text(maps: &[u32], g: Geometry, volume: usize, t: usize, buf: &mut [u8])
     requires { ⌜ Allowed g × (length (now maps) ≡ 15 * g .p) × (volume ≤ 14) × (t < mapBlocks g) × (length (now buf) ≡ g .b - 16) ⌝ }
     ensures { λ r. ⌜ now (buf .exit) ≡ mapText (now (maps .entry)) g volume t ⌝ }
 {
-    let n = (g.b - 16) / 4;
+    let n = places::entries_per_block(g);
     let mut e = 0;
     while e < n {
         let entry = map_entry(maps, g, volume, t * n + e);

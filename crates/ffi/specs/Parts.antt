@@ -12,6 +12,7 @@ use Rattle.model.specs.Parts.{choose, overlay, patched}
 use Rattle.model.specs.Session.{Outcome}
 use Rattle.model.specs.Opening.{OpenResult, OpenTo, NotOpened}
 use Rattle.model.specs.Write.{WriteResult}
+use Rattle.model.specs.Answers.{changeSlice}
 use Rattle.model.specs.Close.{CloseResult}
 
 -- A session from its parts.
@@ -47,10 +48,6 @@ writeNumber (WriteResult.Refused n probes) = n
 abbrev pub changeClaimed : Change → ℕ
 changeClaimed (Claimed ψ) = 1
 changeClaimed (Rewritten ψ) = 0
-
-abbrev pub changeSlice : Change → ℕ
-changeSlice (Claimed ψ) = ψ
-changeSlice (Rewritten ψ) = ψ
 
 abbrev pub writeClaimed : WriteResult → ℕ
 writeClaimed (WriteResult.Served change probes) = changeClaimed change

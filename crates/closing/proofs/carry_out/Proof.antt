@@ -1,5 +1,5 @@
 -- `closing::carry_out` meets its contract. After v turns the maps of the first v volumes are stored. Assumes nothing.
-use mathlib.Core.Path.{_≡_, refl, sym, ap, ap₂, _∙_}
+use mathlib.Core.Path.{_≡_, refl, sym, ap, ap₂, _∙_, subst}
 use mathlib.Core.List.{List}
 use Prim.Native.Nat.{ℕ, _+_, _-_, _*_, _≤_}
 use native.Mathlib.Nat.{zero-add}
@@ -27,11 +27,22 @@ abbrev μ-loop : tie.MeasureT-loop
 
 -- ---- past the refusals
 
+-- Where everything was lent, and where the map blocks are counted.
+abbrev lent : tie.After-enum-told2 Inv-loop μ-loop → tie.Start Inv-loop μ-loop
+lent c = c .before .before .before .before .before .before
+
+abbrev told : tie.After-map-blocks Inv-loop μ-loop → tie.After-enum-told2 Inv-loop μ-loop
+told c = c .before .before .before
+
+-- The turn whose map blocks were stored.
+abbrev turned : tie.After-slice-known4 Inv-loop μ-loop → tie.In-loop Inv-loop μ-loop
+turned c = let stored = c .before .before in stored .before .before .before .before .before
+
 closable : (c : tie.After-enum-told2 Inv-loop μ-loop)
-    → let a = c .before .before .before .before .before .before .args in
+    → let a = lent c .args in
     Closable (length (a .device .now)) (held (a .maps .now) (a .owners .now) 0 (a .session)) (length (a .drawn .now))
 closable c =
-    let s = c .before .before .before .before .before .before in
+    let s = lent c in
     closeRefusal-none _ (held (s .args .maps .now) (s .args .owners .now) 0 (s .args .session)) _
     (s .pre (ap answerNumber (c .enum-told2 .given .1)))
 
@@ -40,30 +51,34 @@ keys-long c = search needs
 
 -- The bytes needed are drawn, and few.
 enough : (c : tie.After-map-blocks Inv-loop μ-loop)
-    → let a = c .before .before .before .before .before .before .before .before .before .args in
+    → let a = lent (told c) .args in
     let need = 16 * c .map-blocks .result * (a .session .k + 1) in
     (need ≤ 4080) × (need ≤ length (a .drawn .now)) × (a .session .k ≤ 14) × (length (a .session .keys) ≡ 480)
 enough c =
-    let told = c .before .before .before in
-    let s = told .before .before .before .before .before .before .args .session in
-    let ok = closable told in
-    let usable = ok .stands .usable in (
-      rw (c .map-blocks .ensures) (omega (arith, closeNeed-small (s .geometry) (usable .allowed) (s .k) (usable .top))),
-      rw (c .map-blocks .ensures) (rw (zero-add _) at (ok .enough)),
+    let a = lent (told c) .args in
+    let s = a .session in
+    let ok = closable (told c) in
+    let usable = ok .stands .usable in
+    let counted = sym (c .map-blocks .ensures) in (
+      subst (λ (m : ℕ). 16 * m * (s .k + 1) ≤ 4080) counted
+          (omega (arith, closeNeed-small (s .geometry) (usable .allowed) (s .k) (usable .top))),
+      subst (λ (m : ℕ). 16 * m * (s .k + 1) ≤ length (a .drawn .now)) counted (rw (zero-add _) at (ok .enough)),
       usable .top,
-      keys-long (told .before .before .before .before .before .before),
+      keys-long (lent (told c)),
     )
 
 -- And so for volume v.
 volume-enough : (c : tie.In-loop Inv-loop μ-loop)
     → let counted = c .before .before in
-    let s = counted .before .before .before .before .before .before .before .before .before .args .session in
+    let s = lent (told counted) .args .session in
     let m = counted .map-blocks .result in
     16 * (m * c .before .loop .v) + 16 * m ≤ 16 * m * (s .k + 1)
 volume-enough c =
     let counted = c .before .before in
-    let s = counted .before .before .before .before .before .before .before .before .before .args .session in
-    rw (counted .map-blocks .ensures) (closeNeed-covers (s .geometry) (s .k) (c .before .loop .v) (c .loop-test .taken))
+    let s = lent (told counted) .args .session in
+    let v = c .before .loop .v in
+    subst (λ (m : ℕ). 16 * (m * v) + 16 * m ≤ 16 * m * (s .k + 1)) (sym (counted .map-blocks .ensures))
+    (closeNeed-covers (s .geometry) (s .k) v (c .loop-test .taken))
 
 -- ---- needs
 
@@ -79,10 +94,10 @@ loop-holds c = (search needs, refl, refl)
 store-maps-requires : tie.Need-store-maps-requires Inv-loop μ-loop
 store-maps-requires c κs =
     let turn = c .before .before .before .before in
-    let counted = c .before .before .before .before .before .before in
-    let s = counted .before .before .before .before .before .before .before .before .before .args .session in
-    let l = c .before .before .before .before .before .loop in
-    let ok = closable (c .before .before .before .before .before .before .before .before .before) .stands in
+    let counted = turn .before .before in
+    let s = lent (told counted) .args .session in
+    let l = turn .before .loop in
+    let ok = closable (told counted) .stands in
     let w = enough counted in
     let on = volume-enough turn in (
       ok .usable .allowed,
@@ -96,9 +111,10 @@ store-maps-requires c κs =
 loop-again : tie.Need-loop-again Inv-loop μ-loop
 loop-again c =
     let stored = c .before .before in
-    let counted = c .before .before .before .before .before .before .before .before .before in
-    let a = counted .before .before .before .before .before .before .before .before .before .args in
-    let l = c .before .before .before .before .before .before .before .before .loop in
+    let turn = turned c in
+    let counted = turn .before .before in
+    let a = lent (told counted) .args in
+    let l = turn .before .loop in
     let g = a .session .geometry in
     let start = mapStart g (l .v) in
     let bytes = mapBytes (a .maps .now) g (keyOf (a .session) (l .v)) (a .drawn .now) (0 + 16 * (mapBlocks g * l .v)) (l .v) in
@@ -108,7 +124,7 @@ loop-again c =
     (part-lent (a .session .keys) (32 * l .v) 32 refl) (counted .map-blocks .ensures)
     ∙ ap (λ (at : ℕ). overlay (l .device) start (mapBytes (a .maps .now) g (keyOf (a .session) (l .v)) (a .drawn .now) at (l .v)))
     (sym (zero-add _)) in (
-      omega (arith, c .before .before .before .before .before .before .before .loop-test .taken),
+      omega (arith, turn .loop-test .taken),
       s
           ∙ ap (λ (d : List ℕ). overlay d start bytes) (l .inv .1)
           ∙ mapPatches-turn (held (a .maps .now) (a .owners .now) 0 (a .session)) (a .drawn .now) (a .device .now) (l .v),
@@ -117,18 +133,21 @@ loop-again c =
 
 returns-2 : tie.Need-returns-2 Inv-loop μ-loop
 returns-2 c =
-    let l = c .before .before .before .before .before .before .before .before .before .before .loop in
-    let told = c .before .before .before .before .before .before .before .before .before .before .before .before .before .before in
-    let a = told .before .before .before .before .before .before .args in
+    let cleared = c .before .before .before in
+    let emptied = cleared .before .before .before .before in
+    let done = emptied .before .before .before in
+    let l = done .loop in
+    let passed = told (done .before) in
+    let a = lent passed .args in
     let h = held (a .maps .now) (a .owners .now) 0 (a .session) in
-    let tables = closable told .stands .tables in
+    let tables = closable passed .stands .tables in
     let all : l .v ≡ a .session .k + 1 = omega arith in
-    rw (told .enum-told2 .given .1)
+    rw (passed .enum-told2 .given .1)
     (record {
       answered = refl;
       stored = l .inv .1 ∙ ap (λ (n : ℕ). patched (mapPatches h (a .drawn .now) n) (a .device .now)) all;
-      mapped = c .before .before .before .before .before .before .before .unmap .ensures ∙ ap (λ (n : ℕ). replicate n unmapped) (tables .0);
-      owned = c .before .before .before .clear .ensures ∙ ap (λ (n : ℕ). replicate n 0) (tables .1);
+      mapped = emptied .unmap .ensures ∙ ap (λ (n : ℕ). replicate n unmapped) (tables .0);
+      owned = cleared .clear .ensures ∙ ap (λ (n : ℕ). replicate n 0) (tables .1);
       moved = sym (zero-add _);
       handed = c .closed-session .ensures;
     })
@@ -156,11 +175,11 @@ mul-store-maps-2 c = omega (arith, enough (c .before .before .before .before .be
 
 add-v : tie.Need-add-v Inv-loop μ-loop
 add-v c =
-    let turn = c .before .before .before .before .before .before .before in
+    let turn = turned c in
     omega (arith, enough (turn .before .before), turn .loop-test .taken)
 
 loop-less : tie.Need-loop-less Inv-loop μ-loop
-loop-less c = omega (arith, c .before .before .before .before .before .before .before .loop-test .taken)
+loop-less c = omega (arith, turned c .loop-test .taken)
 
 pub carry-out-spec : {M : Type 1} → statement M
 carry-out-spec =

@@ -24,7 +24,7 @@ stands c =
 
 -- The entries tested lie in the table, which is small.
 rows : (c : tie.After-struct-known)
-    → let a = c .before .before .before .before .before .before .before .args in let p = a .session .geometry .p in
+    → let told = c .before .before in let a = told .before .before .before .before .before .args in let p = a .session .geometry .p in
     ((a .session .k + 1) * p ≤ 15 * p) × (15 * p ≡ length (a .maps .now)) × (p ≤ 4096)
 rows c =
     let told = c .before .before in
@@ -50,12 +50,16 @@ returns-2 c =
     closeRefusal-bad (a .device) (held (a .maps .now) (a .owners .now) (a .position) (a .session)) (a .tape) (stands told)
     (sym (c .before .any-bad .ensures) ∙ c .if1 .taken)
 
+-- What was asked, from the last test on.
+abbrev asked : tie.After-is-short → tie.Start
+asked c = let rowed = c .before .before .before .before in let told = rowed .before .before in told .before .before .before .before .before
+
 -- What the last test says of the tape.
 tape-short : (c : tie.After-is-short)
-    → let a = c .before .before .before .before .before .before .before .before .before .before .before .args in
+    → let a = asked c .args in
     short (a .tape) (a .position) (closeNeed (a .session)) ≡ c .is-short .result
 tape-short c =
-    let a = c .before .before .before .before .before .before .before .before .before .before .before .args in
+    let a = asked c .args in
     sym (c .is-short .ensures ∙ ap (short (a .tape) (a .position)) (c .before .maps-need .ensures))
 
 returns-3 : tie.Need-returns-3

@@ -1,12 +1,14 @@
 -- `closing::map_text` meets its contract. After e turns the first e entries are stored. Assumes nothing.
-use mathlib.Core.Path.{_≡_, refl, sym, ap, _∙_}
+use mathlib.Core.Path.{_≡_, refl, sym, ap, _∙_, subst}
 use mathlib.Core.List.{List}
-use Prim.Native.Nat.{ℕ, _-_, _*_, _≤_}
+use Prim.Native.Nat.{ℕ, _+_, _-_, _*_, _≤_}
 use native.Mathlib.Omega.{arith}
 use lib.ListN.{length}
 use borrow.Author.Needs.{needs}
-use Rattle.model.specs.Parts.{overlay, joined}
+use lib.Dec.{ltb}
+use Rattle.model.specs.Parts.{choose, overlay, joined}
 use Rattle.model.specs.Geometry.{perBlock, fourBytes}
+use Rattle.model.specs.Session.{entry, unmapped}
 use Rattle.model.proofs.Parts.{overlay-length}
 use Rattle.model.proofs.Bounds.{b-bounds, entries-small}
 use Rattle.model.proofs.MapBlocks.{entryBytes}
@@ -22,54 +24,71 @@ Inv-loop maps g volume t buf₀ n e₀ buf e =
 abbrev μ-loop : tie.MeasureT-loop
 μ-loop maps g volume t buf₀ n e₀ buf e = n - e
 
--- The block is small, and the entries of the blocks before it are few.
-few : (c : tie.In-loop Inv-loop μ-loop)
-    → let a = c .before .before .before .before .before .args in (a .g .b ≤ 4096) × (a .t * perBlock (a .g) ≤ 17 * 1020)
-few c =
-    let start = c .before .before .before .before .before in
-    let g = start .args .g in
-    let ok = start .pre .0 in
-    (b-bounds g ok .1, entries-small g ok (start .args .t) (start .pre .3))
+-- What was lent before the loop, and the number of entries.
+module _ (c : tie.At-loop Inv-loop μ-loop) where
+  abbrev start : tie.Start Inv-loop μ-loop
+  start = c .before .before .before .before
 
-sub-n : tie.Need-sub-n Inv-loop μ-loop
-sub-n c =
-    let start = c .before .before .before in
-    omega (arith, b-bounds (start .args .g) (start .pre .0))
+  abbrev n : ℕ
+  n = c .before .entries-per-block .result
+
+  abbrev entries : ℕ → List ℕ
+  entries = let a = start .args in entryBytes (a .maps .now) (a .g) (a .volume) (a .t)
+
+  many : n ≡ perBlock (start .args .g)
+  many = c .before .entries-per-block .ensures
+
+  -- The block is small, and the entries of the blocks before it are few.
+  few : (n ≤ 1020) × (start .args .t * n ≤ 17 * 1020)
+  few =
+      let a = start .args in
+      let small = b-bounds (a .g) (start .pre .0) .1 in
+      (omega (arith, many), subst (λ (y : ℕ). a .t * y ≤ 17 * 1020) (sym many) (entries-small (a .g) (start .pre .0) (a .t) (start .pre .3)))
 
 put-number-requires : tie.Need-put-number-requires Inv-loop μ-loop
-put-number-requires c κs = omega (arith, c .before .before .before .before .before .before .before .pre .4, c .before .before .before .loop .inv .2)
+put-number-requires c κs = let l = c .before .before .before in omega (arith, many l, start l .pre .4, l .loop .inv .2)
 
 loop-again : tie.Need-loop-again Inv-loop μ-loop
 loop-again c =
     let put = c .before .before in
     let entered = put .before .before in
-    let l = entered .before .before .loop in
-    let a = entered .before .before .before .before .before .before .args in
-    let f = entryBytes (a .maps .now) (a .g) (a .volume) (a .t) in
-    let s : put .put-number .last .0 ≡ overlay (l .buf) (l .e * 4) (f (l .e)) =
-    put .put-number .ensures ∙ ap (λ (x : ℕ). overlay (l .buf) (l .e * 4) (fourBytes x)) (entered .map-entry .ensures) in (
+    let at = entered .before .before in
+    let l = at .loop in
+    let a = start at .args in
+    let s : put .put-number .last .0 ≡ overlay (l .buf) (l .e * 4) (entries at (l .e)) =
+    put .put-number .ensures ∙ ap (λ (x : ℕ). overlay (l .buf) (l .e * 4) (fourBytes x)) (entered .map-entry .ensures ∙ entry-at at) in (
       search needs,
       s
-          ∙ ap (λ (b : List ℕ). overlay b (l .e * 4) (f (l .e))) (l .inv .1)
+          ∙ ap (λ (b : List ℕ). overlay b (l .e * 4) (entries at (l .e))) (l .inv .1)
           ∙ mapText-turn (a .maps .now) (a .g) (a .volume) (a .t) (a .buf .now) (l .e),
-      ap length s ∙ overlay-length (l .buf) (l .e * 4) (f (l .e)) ∙ l .inv .2,
+      ap length s ∙ overlay-length (l .buf) (l .e * 4) (entries at (l .e)) ∙ l .inv .2,
     )
+  where
+    -- The entry at place e of the block, where the block has y entries.
+    entryBy : (at : tie.At-loop Inv-loop μ-loop) → ℕ → ℕ
+    entryBy at y =
+        let a = start at .args in
+        choose (ltb (a .t * y + at .loop .e) (a .g .p)) (entry (a .maps .now) (a .g) (a .volume) (a .t * y + at .loop .e)) unmapped
+
+    entry-at : (at : tie.At-loop Inv-loop μ-loop) → entryBy at (n at) ≡ entryBy at (perBlock (start at .args .g))
+    entry-at at = ap (entryBy at) (many at)
 
 returns : tie.Need-returns Inv-loop μ-loop
 returns c =
-    let start = c .before .before .before .before .before in
-    let a = start .args in
-    let l = c .before .loop in
-    let all : l .e ≡ perBlock (a .g) = omega arith in
+    let at = c .before in
+    let a = start at .args in
+    let l = at .loop in
+    let all : l .e ≡ perBlock (a .g) = omega (arith, many at) in
     l .inv .1
-    ∙ ap (λ (n : ℕ). overlay (a .buf .now) 0 (joined n (entryBytes (a .maps .now) (a .g) (a .volume) (a .t)))) all
-    ∙ mapText-done (a .maps .now) (a .g) (a .volume) (a .t) (start .pre .0) (a .buf .now) (start .pre .4)
+    ∙ ap (λ (n : ℕ). overlay (a .buf .now) 0 (joined n (entries at))) all
+    ∙ mapText-done (a .maps .now) (a .g) (a .volume) (a .t) (start at .pre .0) (a .buf .now) (start at .pre .4)
 
 pub map-text-spec : {M : Type 1} → statement M
 map-text-spec =
     tie.close
-    (tie.spec Inv-loop μ-loop sub-n
+    (tie.spec Inv-loop μ-loop (λ c κs. search needs)
     (λ c. (search needs, sym (overlay-none _ _ _), refl))
-    (λ c. omega (arith, few c)) (λ c. omega (arith, few c)) (λ c κs. search needs)
-    (λ c. omega (arith, few (c .before .before))) put-number-requires (λ c. omega (arith, few (c .before .before .before .before .before)))
+    (λ c. omega (arith, few (c .before))) (λ c. omega (arith, few (c .before))) (λ c κs. search needs)
+    (λ c. omega (arith, few (c .before .before .before))) put-number-requires
+    (λ c. omega (arith, few (c .before .before .before .before .before .before)))
     (λ c. search needs) loop-again (λ c. search needs) returns)

@@ -25,12 +25,14 @@ array-borrow-prefix-text c =
 
 slice-aggregate-store-map-in : tie.Need-slice-aggregate-store-map-in
 slice-aggregate-store-map-in c =
-    let start = c .before .before .before .before .before .before .before in
+    let text = c .before in
+    let start = text .before .before .before .before .before .before in
     sym (lent-long (start .args .g) (start .pre .0))
 
 store-map-in-requires : tie.Need-store-map-in-requires
 store-map-in-requires c κs =
-    let start = c .before .before .before .before .before .before .before in
+    let text = c .before in
+    let start = text .before .before .before .before .before .before in
     let p = start .pre in
     (p .0, p .1, p .2, p .3, p .4, p .5, p .6, lent-long (start .args .g) (p .0))
 

@@ -13,9 +13,11 @@ use Rattle.closing.proofs.store_map_in.Tie as tie
 returns : tie.Need-returns
 unfolding mapBlock
 returns c =
-    let stored = c .before .before .before .before .before .before .before in
+    let placed = c .before .before .before in
+    let stored = placed .before .before .before .before in
     let filled = stored .before .before .before .before in
-    let start = filled .before .before .before .before .before .before .before in
+    let lent = filled .before .before .before in
+    let start = lent .before .before .before .before in
     let a = start .args in
     let entries = ctr (a .key .now) (a .iv .now) (mapText (a .maps .now) (a .g) (a .volume) (a .t)) in
     c .before .before .store-ctr .ensures

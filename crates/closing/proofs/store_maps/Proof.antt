@@ -47,7 +47,8 @@ store-map-requires : tie.Need-store-map-requires Inv-loop μ-loop
 store-map-requires c κs =
     let turn = c .before .before in
     let l = turn .before .loop in
-    let start = turn .before .before .before .before .before .before .before .before in
+    let started = turn .before .before in
+    let start = started .before .before .before .before .before .before in
     let p = start .pre in
     let w = lies turn in (
       p .0,
@@ -64,7 +65,8 @@ loop-again c =
     let stored = c .before .before in
     let turn = stored .before .before .before in
     let l = turn .before .loop in
-    let start = turn .before .before .before .before .before .before .before .before in
+    let started = turn .before .before in
+    let start = started .before .before .before .before .before .before in
     let a = start .args in
     let at = turn .before .before .map-start .result + l .t * a .g .b in
     let f = blockBytes (a .maps .now) (a .g) (a .key .now) (a .tape .now) (a .position) (a .volume) in
@@ -88,7 +90,8 @@ returns c =
     let l = c .before .loop in
     let all : l .t ≡ started .before .map-blocks .result = omega arith in
     l .inv .1
-    ∙ ap₂ (λ (s n : ℕ). overlay (a .device .now) s (joined n (blockBytes (a .maps .now) (a .g) (a .key .now) (a .tape .now) (a .position) (a .volume))))
+    ∙ ap₂ (λ (s n : ℕ).
+    overlay (a .device .now) s (joined n (blockBytes (a .maps .now) (a .g) (a .key .now) (a .tape .now) (a .position) (a .volume))))
     (started .map-start .ensures) (all ∙ started .before .map-blocks .ensures)
 
 pub store-maps-spec : {M : Type 1} → statement M

@@ -23,7 +23,8 @@ returns c =
 returns-2 : tie.Need-returns-2
 returns-2 c =
     let copied = c .before .before .before .before in
-    let called = copied .before .before .before .before .before .before .before .before .before in
+    let kept = copied .before .before .before .before in
+    let called = kept .before .before .before .before .before in
     let made = called .before .before .before .before .before in
     let fit = made .before .before .before .if1 .left in
     let left = rw (made .session-of .ensures) at (called .close-at .ensures) in

@@ -15,7 +15,8 @@ returns c =
 returns-2 : tie.Need-returns-2
 returns-2 c =
     let copied = c .before .before .before in
-    let called = copied .before .before .before .before .before .before .before in
+    let kept = copied .before .before .before in
+    let called = kept .before .before .before .before in
     let fit = called .before .before .before .if1 .left in
     let left = called .«open» .ensures in (
       choose-fit _ fit (c .open-number .ensures ∙ ap openNumber (left .answered)),

@@ -22,7 +22,8 @@ returns c =
 
 returns-2 : tie.Need-returns-2
 returns-2 c =
-    let called = c .before .before .before .before .before .before .before .before .before .before in
+    let copied = c .before .before .before .before .before in
+    let called = copied .before .before .before .before .before in
     let made = called .before .before .before .before .before in
     let fit = made .before .if1 .left in
     let left = rw (made .session-of .ensures) at (called .write-at .ensures) in

@@ -56,7 +56,7 @@ module _ (s : tie.Start) where
 
 module _ (c : tie.After-decision2) where
   abbrev start : tie.Start
-  start = c .before .before .before .before .before .before .before .before
+  start = let known = c .before .before .before .before in known .before .before .before .before
 
   rewrites : Says start (Rewrite (c .decision2 .given .0 .0))
   rewrites = says start _ (c .decision2 .given .1)
@@ -84,7 +84,7 @@ rewrite-requires c κs =
 
 module _ (c : tie.After-decision3) where
   abbrev start′ : tie.Start
-  start′ = c .before .before .before .before .before .before .before .before
+  start′ = let known = c .before .before .before .before in known .before .before .before .before
 
   claims : Says start′ (Claim (c .decision3 .given .0 .0) (c .decision3 .given .0 .1 .0))
   claims = says start′ _ (c .decision3 .given .1)
@@ -103,7 +103,8 @@ claim-requires c κs =
 
 assign-requires : tie.Need-assign-requires
 assign-requires c κs =
-    let decided = c .before .before .before .before .before .before .before .before .before .before .before .before in
+    let claimed = c .before .before .before .before .before .before in
+    let decided = claimed .before .before .before .before .before .before in
     let w = fit′ decided in
     let most = w .stands .usable .allowed .slices-most in (
       omega (arith, w .stands .tables .0, most),
@@ -116,7 +117,8 @@ assign-requires c κs =
 add-served : tie.Need-add-served
 add-served c =
     let assigned = c .before .before .before .before .before in
-    let decided = assigned .before .before .before .before .before .before .before .before .before .before .before .before in
+    let claimed = assigned .before .before .before .before .before .before in
+    let decided = claimed .before .before .before .before .before .before in
     omega (arith, claims decided .1, fit′ decided .stands .usable .allowed .slices-most)
 
 -- ---- what is left
@@ -137,11 +139,13 @@ returns c =
 returns-2 : tie.Need-returns-2
 unfolding patched
 returns-2 c =
-    let decided = c .before .before .before .before .before .before .before .before .before .before in
+    let written = c .before .before .before in
+    let lent = written .before .before .before .before in
+    let decided = lent .before .before .before in
     rw (decided .decision2 .given .1, part-all (start decided .args .drawn .now) 16 (rewrites decided .drawn-all))
     (record {
       answered = ap writeResult (c .served .ensures .0);
-      stored = rw (key-lent (start decided) _ (fit decided)) at (c .before .before .before .rewrite .ensures);
+      stored = rw (key-lent (start decided) _ (fit decided)) at (written .rewrite .ensures);
       mapped = refl;
       owned = refl;
       moved = refl;
@@ -153,7 +157,8 @@ unfolding patched
 returns-3 c =
     let assigned = c .before .before .before .before .before in
     let claimed = assigned .before .before .before .before .before .before in
-    let decided = claimed .before .before .before .before .before .before .before in
+    let lent = claimed .before .before .before .before in
+    let decided = lent .before .before .before in
     let all = part-all (start′ decided .args .drawn .now) (g (start′ decided) .b) (claims decided .0 .drawn-all) in
     rw (decided .decision3 .given .1, all, sub-zero _)
     (record {
@@ -191,7 +196,8 @@ rem-claim c = fit′ (c .before .before .before .before .before .before) .stands
 
 div-assign : tie.Need-div-assign
 div-assign c =
-    let decided = c .before .before .before .before .before .before .before .before .before .before .before .before in
+    let claimed = c .before .before .before .before .before .before in
+    let decided = claimed .before .before .before .before .before .before in
     fit′ decided .stands .usable .allowed .slice-least
 
 pub carry-out-spec : {M : Type 1} → statement M

@@ -29,7 +29,8 @@ store-ctr-requires c κs =
 
 returns : tie.Need-returns
 returns c =
-    let stored = c .before .before .before .before .before .before .before in
+    let placed = c .before .before .before in
+    let stored = placed .before .before .before .before in
     let a = start (stored .before .before) .args in
     c .before .before .store-ctr .ensures
     ∙ ap₂ (λ (s : List ℕ) (n : ℕ). overlay s n (ctr (a .key .now) (a .iv .now) (a .text .now)))
