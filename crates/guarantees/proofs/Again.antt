@@ -25,7 +25,7 @@ use Rattle.model.proofs.Bounds.{b-bounds, sliceOf-lt}
 use Rattle.model.proofs.Tests.{below}
 use Rattle.guarantees.proofs.Patches.{patched-length}
 use Rattle.guarantees.proofs.Places.{Apart, slice-first}
-use Rattle.guarantees.proofs.Sound.{tableEntry}
+use Rattle.guarantees.proofs.SoundTables.{tableEntry}
 use Rattle.guarantees.proofs.Blocks.{deciphered-same}
 use Rattle.guarantees.proofs.Cases.{Stands, close-cases}
 use Rattle.guarantees.proofs.MapBlocks.{mapPatches-elsewhere, storedEntry-back}

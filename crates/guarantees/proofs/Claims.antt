@@ -11,7 +11,7 @@ use Rattle.model.specs.Session.{Held, geometry, slot, unmapped}
 use Rattle.model.specs.Write.{claimed}
 use Rattle.model.proofs.Tests.{equal}
 use Rattle.guarantees.specs.Points.{Maps}
-use Rattle.guarantees.proofs.Sound.{Sound, OpenVolume, tableEntry}
+use Rattle.guarantees.proofs.SoundTables.{SoundTables, OpenVolume, tableEntry}
 use Rattle.guarantees.proofs.Blocks.{same-slot}
 use Rattle.guarantees.proofs.Cases.{Stands}
 
@@ -38,7 +38,7 @@ module _ (n : ℕ) (h : Held) (i σ j ψ place : ℕ) (text tape : List ℕ) (st
       (λ ne. inr ((λ p q. ne (ap₂ (slot (geometry h)) p q)), claimed-entry-other v τ hτ (λ p q. ne (ap₂ (slot (geometry h)) p q))))
       (equal (slot (geometry h) v τ) (slot (geometry h) i σ))
 
-  module _ (sound : Sound h) (hψ : ψ < geometry h .p) (free : getD (h .owners) ψ 0 ≡ 0) where
+  module _ (sound : SoundTables h) (hψ : ψ < geometry h .p) (free : getD (h .owners) ψ 0 ≡ 0) where
     -- No open volume had the claimed slice.
     pub claimed-new : (v τ : ℕ) → OpenVolume h v → τ < geometry h .p → tableEntry h v τ ≡ ψ → ⊥
     claimed-new v τ ov hτ e = omega (arith, sound .apart .owner v ψ ov hψ (τ, hτ, e), free)
@@ -47,7 +47,7 @@ module _ (n : ℕ) (h : Held) (i σ j ψ place : ℕ) (text tape : List ℕ) (st
     owner-other : (φ : ℕ) → (φ ≡ ψ → ⊥) → getD (h′ .owners) φ 0 ≡ getD (h .owners) φ 0
     owner-other φ ne = getD-set-other (h .owners) ψ φ (i + 1) 0 ne
 
-    pub claimed-sound : tableEntry h i σ ≡ unmapped → Sound h′
+    pub claimed-sound : tableEntry h i σ ≡ unmapped → SoundTables h′
     claimed-sound un =
         record {
           whole = λ v τ ov hτ. ⊎-elim (λ c. inr (rw (c .2) hψ)) (λ c. rw (c .1) (sound .whole v τ ov hτ)) (claimed-entry-cases v τ hτ);

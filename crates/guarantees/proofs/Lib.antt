@@ -5,7 +5,7 @@ pub mod Search
 pub mod Patches
 pub mod Places
 pub mod Blocks
-pub mod Sound
+pub mod SoundTables
 pub mod Cases
 pub mod Claims
 pub mod MapBlocks

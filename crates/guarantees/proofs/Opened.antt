@@ -25,7 +25,7 @@ use Rattle.guarantees.specs.Points.{Handed, Lent, opens, Maps, Opens}
 use Rattle.guarantees.proofs.Reflects.{refutes-passed}
 use Rattle.guarantees.proofs.Chains.{leads-zero}
 use Rattle.guarantees.proofs.Orders.{missing-refutes, open-leads}
-use Rattle.guarantees.proofs.Sound.{Sound, tableEntry}
+use Rattle.guarantees.proofs.SoundTables.{SoundTables, tableEntry}
 use Rattle.guarantees.proofs.Blocks.{same-slot}
 use Rattle.guarantees.proofs.Cases.{Stands}
 use Rattle.guarantees.proofs.Unlocks.{chain-unlocked}
@@ -184,7 +184,7 @@ module _ (device : List ℕ) (x : Handed) (l : Lent) (k : ℕ) where
     inside : (i σ : ℕ) → i ≤ k → σ < g .p → i * g .p + σ < 15 * g .p
     inside i σ hi hσ = digits-lt (omega (arith, served-low)) hσ
 
-    pub served-sound : Sound (heldBy s)
+    pub served-sound : SoundTables (heldBy s)
     served-sound =
         record {
           whole = λ i σ hi hσ. table .whole (i * g .p + σ) (inside i σ hi hσ);

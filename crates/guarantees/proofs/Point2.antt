@@ -31,7 +31,7 @@ use Rattle.guarantees.proofs.Chains.{Leads, here, later}
 use Rattle.guarantees.proofs.Orders.{earlyRules, write-leads, close-leads}
 use Rattle.guarantees.proofs.Patches.{patched-length}
 use Rattle.guarantees.proofs.Places.{slice-first}
-use Rattle.guarantees.proofs.Sound.{Sound, OpenVolume, tableEntry}
+use Rattle.guarantees.proofs.SoundTables.{SoundTables, OpenVolume, tableEntry}
 use Rattle.guarantees.proofs.Blocks.{same-address, restored-here, restored-other, claimedText}
 use Rattle.guarantees.proofs.Blocks.{filled-here, filled-other}
 use Rattle.guarantees.proofs.Cases.{unless-cases, Stands, Asked, Ready, readRefusalOf, writeRefusalOf}
@@ -56,7 +56,7 @@ arraysOf st = blockOf (st .device) (st .held .maps) (st .held .session)
 -- deciphers to.
 pub record Open (first : State) (arrays : Arrays) (st : State) : Type 0 where
   pub stands : Stands (length (st .device)) (st .held)
-  pub sound : Sound (st .held)
+  pub sound : SoundTables (st .held)
   pub session : st .held .session ≡ first .held .session
   pub header : (a n : ℕ) → a + n ≤ sliceStart (geometry (st .held)) 0 → part a n (st .device) ≡ part a n (first .device)
   pub holds : (j b : ℕ) → OpenVolume (st .held) j → b < blockCount (geometry (st .held)) j → arrays j b ≡ arraysOf st j b

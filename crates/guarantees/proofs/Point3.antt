@@ -25,7 +25,7 @@ use Rattle.model.proofs.Tests.{below}
 use Rattle.model.proofs.Bounds.{sliceOf-lt, offsetOf-lt, block-within, iv-within-slice}
 use Rattle.model.proofs.Requests.{readRefusal-none}
 use Rattle.guarantees.proofs.Patches.{rangesOf, patched-length, patched-both, patched-written}
-use Rattle.guarantees.proofs.Sound.{OpenVolume, tableEntry}
+use Rattle.guarantees.proofs.SoundTables.{OpenVolume, tableEntry}
 use Rattle.guarantees.proofs.Blocks.{deciphered-same, claimed-length}
 use Rattle.guarantees.proofs.Cases.{Asked, readRefusalOf, Writable, write-stores, close-cases}
 use Rattle.guarantees.proofs.Claims.{claimed-entry-cases}

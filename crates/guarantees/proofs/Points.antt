@@ -20,7 +20,7 @@ use Rattle.guarantees.specs.Openings.{AllUnlocked}
 use Rattle.guarantees.specs.Points.{Handed, Lent, opens, holds, begin, mapEntry, firstArrays, Opens, Run, Agree, EqualRuns}
 use Rattle.guarantees.specs.Points.{Points23, NoSliceTwice}
 use Rattle.model.proofs.Bounds.{sliceOf-lt}
-use Rattle.guarantees.proofs.Sound.{tableEntry}
+use Rattle.guarantees.proofs.SoundTables.{tableEntry}
 use Rattle.guarantees.proofs.Opened.{holding, Served, served, served-is, openedBy, served-sound, served-stands, served-opens, served-entry}
 use Rattle.guarantees.proofs.Opened.{served-taken, served-cell, served-same}
 use Rattle.guarantees.proofs.Keys.{served-keys}

@@ -28,7 +28,7 @@ use Rattle.walk.proofs.Engine.{choose-cases, unless-cases, Fits, FitsOf
 -- ---- the invariant
 
 -- What every reached state has.
-record Sound (w : State) : Type 0 where
+record SoundState (w : State) : Type 0 where
   drawn : w .held .position ≤ 4096 * w .counted
   fits : w .sized ≡ true → FitsOf (w .held)
   places : w .shuffled ≡ true → length (w .perm) ≡ geometry (w .held) .p
@@ -36,7 +36,7 @@ record Sound (w : State) : Type 0 where
 -- A line that gets a listed answer and leaves a sound state.
 record Good (s : Stepped) : Type 0 where
   listed : Listed (s .answer)
-  sound : Sound (s .state)
+  sound : SoundState (s .state)
 
 -- ---- tables
 
@@ -111,7 +111,7 @@ pairs-length [] = refl
 pairs-length (h ∷ []) = refl
 pairs-length (h ∷ l ∷ bytes) = omega (arith, pairs-length bytes)
 
-module _ (w : State) (s : Sound w) where
+module _ (w : State) (s : SoundState w) where
   refused-good : (n : ℕ) → member n answerNumbers ≡ true → Good (refusedBy w n)
   refused-good n l = record { listed = byte n l; sound = s }
 
@@ -150,7 +150,7 @@ module _ (w : State) (s : Sound w) where
 
   module _ (room : w .counted < 4096) where
     leaving-sound : (h : Held) → geometry h ≡ geometry (w .held) → h .position ≤ w .held .position + 4096 → (w .sized ≡ true → FitsOf h)
-        → Sound (leaving h)
+        → SoundState (leaving h)
     leaving-sound h same moved fits = record { drawn = omega arith; fits = fits; places = λ e. rw same (s .places e) }
 
     written-good : w .sized ≡ true → w .shuffled ≡ true → (i a : ℕ) → Good (written (counting w) i a)
@@ -200,7 +200,7 @@ module _ (w : State) (s : Sound w) where
   unfolding step
   step-good line = frame-good (decode line)
 
-reached-sound : {w : State} → Reached w → Sound w
+reached-sound : {w : State} → Reached w → SoundState w
 reached-sound begin =
     record { drawn = omega arith; fits = λ e. absurd (false≢true e); places = λ e. absurd (false≢true e) }
 reached-sound (after w line r) = step-good w (reached-sound r) line .sound

@@ -12,6 +12,6 @@ OpenVolume h i = i ≤ h .session .k
 abbrev pub tableEntry : Held → (i σ : ℕ) → ℕ
 tableEntry h i σ = entry (h .maps) (geometry h) i σ
 
-pub record Sound (h : Held) : Type 0 where
+pub record SoundTables (h : Held) : Type 0 where
   pub whole : (i σ : ℕ) → OpenVolume h i → σ < geometry h .p → EntryFits (geometry h) (tableEntry h i σ)
   pub apart : HeldOnce h
