@@ -15,7 +15,7 @@ use prog.Memory.{Memory}
 use prog.Routine.{Routine}
 use prog.Wp.{Heap, Calls, Loops, WpFn, Tables}
 use ghost.Atoms.{Atoms}
-use contract.Monad.{Fun, fact, factI}
+use contract.Monad.{Fun, factI}
 use contract.Lifetimes.{Lfts, Shares}
 use contract.Running.{givenOf, tables, tablesOf}
 use types.Kit.{Given, Item, ‵, raw, some, later, _⊛_, _$_, _∵_, !, qed, move, keep, drop, use0, use1, use2, split, join, pick}
@@ -376,8 +376,8 @@ module _ {M : Type 1} (𝓤 : URA M) (H : Heap 𝓤) (A : Atoms 𝓤) (W : Given
         Session′.the-type Session″.the-laws session) is-session $
         fjoin ! $ owned ! Answer′.the-row (Is Answer′.the-row) (EL.makes Answer′.the-type Answer″.the-plain 𝓤 H A) r₁ (v₁ ∷ []) is₁ $
         fjoin ! $ nothing ! $ join ! $
-        use0 W (raw (fact 𝓤 _)) (factI 𝓤 _ (emp 𝓤) (close-need-asks (device .now) (maps .now) (owners .now) (tape .now) (position .now .at)
-        session r₁ e₁)) $
+        use0 W (raw (close-need′.clauses 𝓤 H A mem run (close-need-κs r₁ v₁) (close-need-args r₁ v₁) .requires tt)) (factI 𝓤 _ (emp 𝓤)
+        (close-need-asks (device .now) (maps .now) (owners .now) (tape .now) (position .now .at) session r₁ e₁)) $
         move ! (1 ∷ 0 ∷ []) $ join ! $ use1 W (raw (close-need-contract 𝓤 H A mem run .pre (close-need-to r₁ v₁))) (id⊢ 𝓤 _) $
         calls-at ! fm (close-need-contract 𝓤 H A mem run) close-need-known (close-need-to r₁ v₁) (and-then ! (load ! (from ! (stop !)) (look
         ! 41 refl)) (and-then ! (load ! (from ! (stop !)) (look ! 43 refl)) (no-more !))) (λ v₂.
@@ -435,8 +435,9 @@ module _ {M : Type 1} (𝓤 : URA M) (H : Heap 𝓤) (A : Atoms 𝓤) (W : Given
         fjoin ! $ move ! (3 ∷ 0 ∷ []) $ fjoin ! $ move ! (4 ∷ 0 ∷ []) $ fjoin ! $ move ! (5 ∷ 0 ∷ []) $ fjoin ! $ move ! (6 ∷ 0 ∷ []) $
         fjoin ! $ nothing ! $ move ! (3 ∷ 0 ∷ []) $ join ! $ move ! (4 ∷ 0 ∷ []) $ join ! $ move ! (4 ∷ 0 ∷ []) $ join ! $
         move ! (4 ∷ 0 ∷ []) $ join ! $ join ! $
-        use0 W (raw (fact 𝓤 _)) (factI 𝓤 _ (emp 𝓤) (carry-out-asks (device .now) (maps .now) (owners .now) (tape .now) (position .now .at)
-        session r₁ e₁ r₂ e₂ (r₃ .now) (ws₃ .1 .0 .at) e₃)) $
+        use0 W (raw (carry-out′.clauses 𝓤 H A mem run (carry-out-κs r₃ v₃ r₁ v₁) (carry-out-args r₃ v₃ r₁ v₁) .requires tt)) (factI 𝓤 _ (emp
+        𝓤) (carry-out-asks (device .now) (maps .now) (owners .now) (tape .now) (position .now .at) session r₁ e₁ r₂ e₂ (r₃ .now) (ws₃ .1 .0
+        .at) e₃)) $
         move ! (1 ∷ 0 ∷ []) $ join ! $ use1 W (raw (carry-out-contract 𝓤 H A mem run .pre (carry-out-to r₃ v₃ r₁ v₁))) (id⊢ 𝓤 _) $
         calls-at ! fm (carry-out-contract 𝓤 H A mem run) carry-out-known (carry-out-to r₃ v₃ r₁ v₁) (and-then ! (load ! (from ! (stop !))
         (look ! 11 refl)) (and-then ! (load ! (from ! (stop !)) (look ! 7 refl)) (and-then ! (load ! (from ! (stop !)) (look ! 3 refl))
@@ -471,7 +472,8 @@ module _ {M : Type 1} (𝓤 : URA M) (H : Heap 𝓤) (A : Atoms 𝓤) (W : Given
         suffices ! _ (ends-at 𝓤 H A outer.ended stayed (Outer 𝓤 H A mem run) W from-outside v₄ r₄
         ((ws₄ .0) ▸ (ws₄ .1 .0) ▸ (ws₄ .1 .1 .0) ▸ tt ▸ (ws₃ .1 .0) ▸ tt ▸ tt) (long-device ▸ long-maps ▸ long-owners ▸ tt ▸ tt ▸ tt ▸
         tt)) $
-        use0 W (raw (fact 𝓤 _)) (factI 𝓤 _ (emp 𝓤) (close-ensures (device .now) (maps .now) (owners .now) (tape .now) (position .now .at)
+        use0 W (raw (Outer 𝓤 H A mem run κs args .ensures tt r₄ (atExit outer.ended κs args ((ws₄ .0) ▸ (ws₄ .1 .0) ▸ (ws₄ .1 .1 .0) ▸ tt ▸
+        (ws₃ .1 .0) ▸ tt ▸ tt)))) (factI 𝓤 _ (emp 𝓤) (close-ensures (device .now) (maps .now) (owners .now) (tape .now) (position .now .at)
         session r₁ e₁ r₂ e₂ (r₃ .now) (ws₃ .1 .0 .at) e₃ r₄ (ws₄ .0) (ws₄ .1 .0) (ws₄ .1 .1 .0) e₄)) $
         nothing ! $ nothing ! $ fjoin ! $ move ! (2 ∷ 0 ∷ []) $ fjoin ! $ nothing ! $ fjoin ! $ move ! (9 ∷ 0 ∷ []) $ fjoin ! $
         move ! (8 ∷ 0 ∷ []) $ fjoin ! $ move ! (7 ∷ 0 ∷ []) $ fjoin ! $ move ! (0 ∷ 7 ∷ []) $ join ! $ nothing ! $ move ! (7 ∷ 0 ∷ []) $

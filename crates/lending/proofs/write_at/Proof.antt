@@ -14,7 +14,7 @@ use prog.Memory.{Memory}
 use prog.Routine.{Routine}
 use prog.Wp.{Heap, Calls, Loops, WpFn, Tables}
 use ghost.Atoms.{Atoms}
-use contract.Monad.{Fun, fact, factI}
+use contract.Monad.{Fun, factI}
 use contract.Lifetimes.{Lfts, Shares}
 use contract.Running.{givenOf, tables, tablesOf}
 use types.Kit.{Given, Item, ‵, raw, some, later, _⊛_, _$_, _∵_, !, qed, move, keep, drop, use0, use1, use3, split, join, pick}
@@ -284,11 +284,13 @@ module _ {M : Type 1} (𝓤 : URA M) (H : Heap 𝓤) (A : Atoms 𝓤) (W : Given
         suffices ! _ (ends-at 𝓤 H A outer.ended stayed (Outer 𝓤 H A mem run) W from-outside v₁ r₁
         ((ws₁ .0) ▸ (ws₁ .1 .0) ▸ (ws₁ .1 .1 .0) ▸ tt ▸ tt ▸ (ws₁ .1 .1 .1 .1 .1 .0 .at) ▸ tt ▸ tt ▸ tt ▸ tt ▸ tt) (long-device ▸ long-maps
         ▸ long-owners ▸ tt ▸ tt ▸ tt ▸ tt ▸ tt ▸ tt ▸ tt ▸ tt)) $
-        use0 W (raw (fact 𝓤 _)) (factI 𝓤 _ (emp 𝓤) (e₁)) $ nothing ! $ nothing ! $ fjoin ! $ nothing ! $ fjoin ! $ nothing ! $ fjoin ! $
-        nothing ! $ fjoin ! $ move ! (2 ∷ 0 ∷ []) $ fjoin ! $ nothing ! $ fjoin ! $ nothing ! $ fjoin ! $ move ! (11 ∷ 0 ∷ []) $ fjoin ! $
-        move ! (10 ∷ 0 ∷ []) $ fjoin ! $ move ! (9 ∷ 0 ∷ []) $ fjoin ! $ move ! (0 ∷ 9 ∷ []) $ join ! $ nothing ! $ move ! (9 ∷ 0 ∷ []) $
-        join ! $ move ! (8 ∷ 0 ∷ []) $ join ! $ move ! (7 ∷ 0 ∷ []) $ join ! $ move ! (6 ∷ 0 ∷ []) $ join ! $ move ! (5 ∷ 0 ∷ []) $ join ! $
-        move ! (4 ∷ 0 ∷ []) $ join ! $ move ! (3 ∷ 0 ∷ []) $ join ! $ join ! $ join ! $ done !))))))))))))))))))))))))))))))))))))
+        use0 W (raw (Outer 𝓤 H A mem run κs args .ensures tt r₁ (atExit outer.ended κs args ((ws₁ .0) ▸ (ws₁ .1 .0) ▸ (ws₁ .1 .1 .0) ▸ tt ▸
+        tt ▸ (ws₁ .1 .1 .1 .1 .1 .0 .at) ▸ tt ▸ tt ▸ tt ▸ tt ▸ tt)))) (factI 𝓤 _ (emp 𝓤) (e₁)) $
+        nothing ! $ nothing ! $ fjoin ! $ nothing ! $ fjoin ! $ nothing ! $ fjoin ! $ nothing ! $ fjoin ! $ move ! (2 ∷ 0 ∷ []) $ fjoin ! $
+        nothing ! $ fjoin ! $ nothing ! $ fjoin ! $ move ! (11 ∷ 0 ∷ []) $ fjoin ! $ move ! (10 ∷ 0 ∷ []) $ fjoin ! $ move ! (9 ∷ 0 ∷ []) $
+        fjoin ! $ move ! (0 ∷ 9 ∷ []) $ join ! $ nothing ! $ move ! (9 ∷ 0 ∷ []) $ join ! $ move ! (8 ∷ 0 ∷ []) $ join ! $
+        move ! (7 ∷ 0 ∷ []) $ join ! $ move ! (6 ∷ 0 ∷ []) $ join ! $ move ! (5 ∷ 0 ∷ []) $ join ! $ move ! (4 ∷ 0 ∷ []) $ join ! $
+        move ! (3 ∷ 0 ∷ []) $ join ! $ join ! $ join ! $ done !))))))))))))))))))))))))))))))))))))
 
 module _ {M : Type 1} (𝓤 : URA M) (H : Heap 𝓤) (A : Atoms 𝓤) (W : Given 𝓤 H A) (mem : Memory → SProp 𝓤) (run : Routine → Fun 𝓤) where
   walks : (C : Calls 𝓤 H) (Λ : Loops 𝓤 H) → FmC 𝓤 H (W .laws) C

@@ -15,7 +15,7 @@ use prog.Memory.{Memory}
 use prog.Routine.{Routine}
 use prog.Wp.{Heap, Calls, Loops, WpFn, Tables}
 use ghost.Atoms.{Atoms}
-use contract.Monad.{Fun, fact, factI}
+use contract.Monad.{Fun, factI}
 use contract.Lifetimes.{Lfts, Shares}
 use contract.Running.{givenOf, tables, tablesOf}
 use types.Kit.{Given, Item, ‵, raw, some, later, _⊛_, _$_, _∵_, !, qed, move, keep, drop, use0, use1, split, join, pick, rewrite}
@@ -243,8 +243,9 @@ module _ {M : Type 1} (𝓤 : URA M) (H : Heap 𝓤) (A : Atoms 𝓤) (W : Given
         owned ! usize (Is usize) (uint-makes 𝓤 H A W w64) (position .now .at) (uint-vals w64 (position .now .at))
         (refl, fits7 .1 .0 .fits) $
         fjoin ! $ move ! (3 ∷ 0 ∷ []) $ fjoin ! $ nothing ! $ move ! (4 ∷ 0 ∷ []) $ join ! $ join ! $
-        use0 W (raw (fact 𝓤 _)) (factI 𝓤 _ (emp 𝓤) (between-asks (tape .now) (position .now .at) n r₁ e₁)) $ move ! (1 ∷ 0 ∷ []) $ join ! $
-        use1 W (raw (between-contract 𝓤 H A mem run .pre (between-to r₁))) (id⊢ 𝓤 _) $
+        use0 W (raw (between′.clauses 𝓤 H A mem run (between-κs r₁) (between-args r₁) .requires tt)) (factI 𝓤 _ (emp 𝓤) (between-asks (tape
+        .now) (position .now .at) n r₁ e₁)) $
+        move ! (1 ∷ 0 ∷ []) $ join ! $ use1 W (raw (between-contract 𝓤 H A mem run .pre (between-to r₁))) (id⊢ 𝓤 _) $
         calls-at ! fm (between-contract 𝓤 H A mem run) between-known (between-to r₁) (and-then ! (load ! (from ! (stop !)) (look ! 13 refl))
         (and-then ! (load ! (from ! (stop !)) (look ! 7 refl)) (and-then ! (load ! (from ! (stop !)) (look ! 5 refl)) (no-more !)))) (λ v₂.
         use1 W (later (some (λ (r₂ : RefT (List ℕ)). ((between-alive r₁) ⊛ ‵ ((ShrSlice (named 0) κ₀ u8) .own r₂ (v₂ ∷ [])))
@@ -266,8 +267,9 @@ module _ {M : Type 1} (𝓤 : URA M) (H : Heap 𝓤) (A : Atoms 𝓤) (W : Given
         free1 ! $ free0 ! $ keep ! (2 ∷ 0 ∷ 3 ∷ 1 ∷ []) $
         suffices ! _ (ends-at 𝓤 H A outer.ended stayed (Outer 𝓤 H A mem run) W from-outside v₂ r₂
         (tt ▸ (record { at = r₁ }) ▸ tt ▸ tt) (tt ▸ tt ▸ tt ▸ tt)) $
-        use0 W (raw (fact 𝓤 _)) (factI 𝓤 _ (emp 𝓤) (draw-ensures (tape .now) (position .now .at) n r₁ e₁ (r₂ .now) e₂)) $ nothing ! $
-        nothing ! $ fjoin ! $ move ! (2 ∷ 0 ∷ []) $ fjoin ! $ nothing ! $ fjoin ! $ move ! (0 ∷ 4 ∷ []) $ join ! $ nothing ! $
+        use0 W (raw (Outer 𝓤 H A mem run κs args .ensures tt r₂ (atExit outer.ended κs args (tt ▸ (record { at = r₁ }) ▸ tt ▸ tt)))) (factI
+        𝓤 _ (emp 𝓤) (draw-ensures (tape .now) (position .now .at) n r₁ e₁ (r₂ .now) e₂)) $
+        nothing ! $ nothing ! $ fjoin ! $ move ! (2 ∷ 0 ∷ []) $ fjoin ! $ nothing ! $ fjoin ! $ move ! (0 ∷ 4 ∷ []) $ join ! $ nothing ! $
         move ! (4 ∷ 0 ∷ []) $ join ! $ move ! (3 ∷ 0 ∷ []) $ join ! $ join ! $ join ! $ done !)))))))))))))))))))))
 
 module _ {M : Type 1} (𝓤 : URA M) (H : Heap 𝓤) (A : Atoms 𝓤) (W : Given 𝓤 H A) (mem : Memory → SProp 𝓤) (run : Routine → Fun 𝓤) where

@@ -15,7 +15,7 @@ use prog.Memory.{Memory}
 use prog.Routine.{Routine}
 use prog.Wp.{Heap, Calls, Loops, WpFn, Tables}
 use ghost.Atoms.{Atoms}
-use contract.Monad.{Fun, fact, factI}
+use contract.Monad.{Fun, factI}
 use contract.Lifetimes.{Lfts, Shares}
 use contract.Running.{givenOf, tables, tablesOf}
 use types.Kit.{Given, Item, ‵, raw, some, later, _⊛_, _$_, _∵_, !, qed, move, keep, drop, use0, use1, use2, split, join, pick}
@@ -455,8 +455,9 @@ module _ {M : Type 1} (𝓤 : URA M) (H : Heap 𝓤) (A : Atoms 𝓤) (W : Given
         fjoin ! $ move ! (3 ∷ 0 ∷ []) $ fjoin ! $ move ! (4 ∷ 0 ∷ []) $ fjoin ! $ move ! (5 ∷ 0 ∷ []) $ fjoin ! $ move ! (7 ∷ 0 ∷ []) $
         fjoin ! $ nothing ! $ move ! (8 ∷ 0 ∷ []) $ join ! $ move ! (3 ∷ 0 ∷ []) $ join ! $ move ! (4 ∷ 0 ∷ []) $ join ! $
         move ! (4 ∷ 0 ∷ []) $ join ! $ move ! (5 ∷ 0 ∷ []) $ join ! $ join ! $
-        use0 W (raw (fact 𝓤 _)) (factI 𝓤 _ (emp 𝓤) (carry-out-asks (device .now) (maps .now) (owners .now) (perm .now) (tape .now) (position
-        .now .at) session volume address (text .now) r₁ e₁ r₂ e₂ (r₃ .now) (ws₃ .1 .0 .at) e₃)) $
+        use0 W (raw (carry-out′.clauses 𝓤 H A mem run (carry-out-κs r₃ v₃ r₁ v₁) (carry-out-args r₃ v₃ r₁ v₁) .requires tt)) (factI 𝓤 _ (emp
+        𝓤) (carry-out-asks (device .now) (maps .now) (owners .now) (perm .now) (tape .now) (position .now .at) session volume address (text
+        .now) r₁ e₁ r₂ e₂ (r₃ .now) (ws₃ .1 .0 .at) e₃)) $
         move ! (1 ∷ 0 ∷ []) $ join ! $ use1 W (raw (carry-out-contract 𝓤 H A mem run .pre (carry-out-to r₃ v₃ r₁ v₁))) (id⊢ 𝓤 _) $
         calls-at ! fm (carry-out-contract 𝓤 H A mem run) carry-out-known (carry-out-to r₃ v₃ r₁ v₁) (and-then ! (load ! (from ! (stop !))
         (look ! 12 refl)) (and-then ! (load ! (from ! (stop !)) (look ! 8 refl)) (and-then ! (load ! (from ! (stop !)) (look ! 4 refl))
@@ -496,8 +497,10 @@ module _ {M : Type 1} (𝓤 : URA M) (H : Heap 𝓤) (A : Atoms 𝓤) (W : Given
         suffices ! _ (ends-at 𝓤 H A outer.ended stayed (Outer 𝓤 H A mem run) W from-outside v₄ r₄
         ((ws₄ .0) ▸ (ws₄ .1 .0) ▸ (ws₄ .1 .1 .0) ▸ tt ▸ tt ▸ (ws₃ .1 .0) ▸ tt ▸ tt ▸ tt ▸ tt ▸ tt) (long-device ▸ long-maps ▸ long-owners ▸
         tt ▸ tt ▸ tt ▸ tt ▸ tt ▸ tt ▸ tt ▸ tt)) $
-        use0 W (raw (fact 𝓤 _)) (factI 𝓤 _ (emp 𝓤) (write-ensures (device .now) (maps .now) (owners .now) (perm .now) (tape .now) (position
-        .now .at) session volume address (text .now) r₁ e₁ r₂ e₂ (r₃ .now) (ws₃ .1 .0 .at) e₃ r₄ (ws₄ .0) (ws₄ .1 .0) (ws₄ .1 .1 .0) e₄)) $
+        use0 W (raw (Outer 𝓤 H A mem run κs args .ensures tt r₄ (atExit outer.ended κs args ((ws₄ .0) ▸ (ws₄ .1 .0) ▸ (ws₄ .1 .1 .0) ▸ tt ▸
+        tt ▸ (ws₃ .1 .0) ▸ tt ▸ tt ▸ tt ▸ tt ▸ tt)))) (factI 𝓤 _ (emp 𝓤) (write-ensures (device .now) (maps .now) (owners .now) (perm .now)
+        (tape .now) (position .now .at) session volume address (text .now) r₁ e₁ r₂ e₂ (r₃ .now) (ws₃ .1 .0 .at) e₃ r₄ (ws₄ .0) (ws₄ .1 .0)
+        (ws₄ .1 .1 .0) e₄)) $
         nothing ! $ nothing ! $ fjoin ! $ nothing ! $ fjoin ! $ nothing ! $ fjoin ! $ nothing ! $ fjoin ! $ move ! (2 ∷ 0 ∷ []) $ fjoin ! $
         nothing ! $ fjoin ! $ nothing ! $ fjoin ! $ move ! (11 ∷ 0 ∷ []) $ fjoin ! $ move ! (10 ∷ 0 ∷ []) $ fjoin ! $ move ! (9 ∷ 0 ∷ []) $
         fjoin ! $ move ! (0 ∷ 9 ∷ []) $ join ! $ nothing ! $ move ! (9 ∷ 0 ∷ []) $ join ! $ move ! (8 ∷ 0 ∷ []) $ join ! $
