@@ -216,9 +216,8 @@ fn carry_out(
     let m = places::map_blocks(g);
     let mut v = 0;
     while v < k + 1 {
-        let from = 32 * v;
-        let to = from + 32;
-        store_maps(device, maps, g, &keys[from..to], drawn, 16 * (m * v), v);
+        let key = places::key_in(&keys, v);
+        store_maps(device, maps, g, key, drawn, 16 * (m * v), v);
         v += 1;
     }
     tables::unmap(maps);

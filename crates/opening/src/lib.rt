@@ -220,9 +220,8 @@ fn load_maps(
     let mut v = 0;
     while v < k + 1 {
         let start = places::header_start(g, v);
-        let from = 32 * v;
-        let to = from + 32;
-        let bad = load_volume(&device[start..], g, &keys[from..to], v, maps, owners);
+        let key = places::key_in(keys, v);
+        let bad = load_volume(&device[start..], g, key, v, maps, owners);
         if let Answer::Refused(_) = bad {
             return bad;
         }

@@ -10,6 +10,7 @@ ghost use Rattle.ctr.specs.CounterMode.{ctr};
 ghost use Rattle.model.specs.Parts.{overlay};
 ghost use Rattle.model.specs.Geometry.{Allowed, badGeometry, perBlock, mapBlocks, headerBlocks, deviceLength, numberAt, fourBytes};
 ghost use Rattle.model.specs.Geometry.{headerStart, mapStart, sliceStart, ivStart, blockStart};
+ghost use Rattle.model.specs.Session.{keyIn};
 use model::Geometry;
 use refusals::Answer;
 use refusals::Refusal;
@@ -71,6 +72,16 @@ pub fn device_length(g: Geometry) -> usize
     ensures { λ r. ⌜ r ≡ deviceLength g ⌝ }
 {
     g.b * (header_blocks(g) + g.p * (g.s + 1))
+}
+
+// The data key of a volume, among keys that stand end to end.
+pub fn key_in<'a>(keys: &'a [u8], volume: usize) -> &'a [u8]
+    requires { ⌜ (volume ≤ 14) × (length (now keys) ≡ 480) ⌝ }
+    ensures { λ r. ⌜ (now r ≡ keyIn (now (keys .entry)) volume) × (length (now r) ≡ 32) ⌝ }
+{
+    let from = 32 * volume;
+    let to = from + 32;
+    &keys[from..to]
 }
 
 // Where the header of a volume begins.

@@ -82,10 +82,9 @@ pub fn read(
     }
     let g = session.geometry;
     let keys = session.keys;
-    let from = 32 * volume;
-    let to = from + 32;
+    let key = places::key_in(&keys, volume);
     let entry = tables::entry_at(maps, g, volume, address / g.s);
-    decipher(device, g, &keys[from..to], entry, address % g.s, buf);
+    decipher(device, g, key, entry, address % g.s, buf);
     Reply {
         answer: Answer::Served,
         session: session,

@@ -104,32 +104,14 @@ fn carry_out(
         Decision::Refused { refusal, probes } => refused(refusal, probes, session),
         Decision::Rewrite(slice) => {
             let keys = session.keys;
-            let from = 32 * volume;
-            let to = from + 32;
-            rewrite(
-                device,
-                g,
-                &keys[from..to],
-                drawn,
-                slice,
-                address % g.s,
-                text,
-            );
+            let key = places::key_in(&keys, volume);
+            rewrite(device, g, key, drawn, slice, address % g.s, text);
             served(Change::Rewritten(slice), 0, session)
         }
         Decision::Claim { slice, place } => {
             let keys = session.keys;
-            let from = 32 * volume;
-            let to = from + 32;
-            claim(
-                device,
-                g,
-                &keys[from..to],
-                drawn,
-                slice,
-                address % g.s,
-                text,
-            );
+            let key = places::key_in(&keys, volume);
+            claim(device, g, key, drawn, slice, address % g.s, text);
             tables::assign(maps, owners, g, volume, address / g.s, slice);
             served(Change::Claimed(slice), place + 1, session)
         }

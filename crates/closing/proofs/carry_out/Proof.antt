@@ -11,7 +11,7 @@ use Rattle.model.specs.Parts.{overlay, patched}
 use Rattle.model.specs.Geometry.{mapBlocks, mapStart}
 use Rattle.model.specs.Session.{held, keyOf, unmapped}
 use Rattle.model.specs.Close.{mapBytes, mapPatches}
-use Rattle.model.proofs.Parts.{part-lent, part-lent-length, overlay-length}
+use Rattle.model.proofs.Parts.{overlay-length}
 use Rattle.model.proofs.Requests.{Closable, closeRefusal-none}
 use Rattle.closing.proofs.MapBlocks.{mapPatches-turn}
 use Rattle.closing.proofs.Outcomes.{closeNeed-small, closeNeed-covers}
@@ -102,7 +102,7 @@ store-maps-requires c κs =
     let on = volume-enough turn in (
       ok .usable .allowed,
       ok .tables .0,
-      part-lent-length (s .keys) (32 * l .v) 32 (omega (arith, turn .loop-test .taken)),
+      c .before .before .key-in .ensures .1,
       omega (arith, turn .loop-test .taken),
       omega (arith, counted .map-blocks .ensures),
       l .inv .2 ∙ ok .long,
@@ -121,7 +121,7 @@ loop-again c =
     let s : stored .store-maps .last .0 ≡ overlay (l .device) start bytes =
     stored .store-maps .ensures
     ∙ ap₂ (λ (key : List ℕ) (m : ℕ). overlay (l .device) start (mapBytes (a .maps .now) g key (a .drawn .now) (16 * (m * l .v)) (l .v)))
-    (part-lent (a .session .keys) (32 * l .v) 32 refl) (counted .map-blocks .ensures)
+    (stored .before .before .before .key-in .ensures .0) (counted .map-blocks .ensures)
     ∙ ap (λ (at : ℕ). overlay (l .device) start (mapBytes (a .maps .now) g (keyOf (a .session) (l .v)) (a .drawn .now) at (l .v)))
     (sym (zero-add _)) in (
       omega (arith, turn .loop-test .taken),
@@ -158,14 +158,11 @@ map-blocks-requires c κs = closable (c .before .before) .stands .usable .allowe
 add-loop : tie.Need-add-loop Inv-loop μ-loop
 add-loop c = omega (arith, enough (c .before))
 
-mul-from : tie.Need-mul-from Inv-loop μ-loop
-mul-from c = omega (arith, enough (c .before .before), c .loop-test .taken)
-
-add-to : tie.Need-add-to Inv-loop μ-loop
-add-to c = omega (arith, enough (c .before .before), c .loop-test .taken)
-
-part-store-maps-end : tie.Need-part-store-maps-end Inv-loop μ-loop
-part-store-maps-end c = omega (arith, enough (c .before .before .before .before .before), c .before .before .before .loop-test .taken)
+key-in-requires : tie.Need-key-in-requires Inv-loop μ-loop
+key-in-requires c κs =
+    let turn = c .before in
+    let w = enough (turn .before .before) in
+    (omega (arith, turn .loop-test .taken), w .3)
 
 mul-store-maps : tie.Need-mul-store-maps Inv-loop μ-loop
 mul-store-maps c = omega (arith, enough (c .before .before .before .before .before .before), volume-enough (c .before .before .before .before))
@@ -184,6 +181,6 @@ loop-less c = omega (arith, turned c .loop-test .taken)
 pub carry-out-spec : {M : Type 1} → statement M
 carry-out-spec =
     tie.close
-    (tie.spec Inv-loop μ-loop (λ c. search needs) returns (λ c. search needs) map-blocks-requires loop-holds add-loop mul-from add-to
-    (λ c. search needs) (λ c. search needs) part-store-maps-end mul-store-maps mul-store-maps-2 store-maps-requires add-v loop-less loop-again
+    (tie.spec Inv-loop μ-loop (λ c. search needs) returns (λ c. search needs) map-blocks-requires loop-holds add-loop
+    (λ c. search needs) key-in-requires mul-store-maps mul-store-maps-2 store-maps-requires add-v loop-less loop-again
     (λ c κs. search needs) (λ c κs. search needs) (λ c κs. search needs) (λ c. search needs) (λ c. search needs) (λ c. search needs) returns-2)

@@ -10,7 +10,7 @@ use lib.ListN.{length, take, drop}
 use Rattle.refusals.specs.Numbers.{answerNumber}
 use Rattle.model.specs.Geometry.{mapBlocks, headerOf}
 use Rattle.model.specs.Opening.{storedEntry, mapEntries, load}
-use Rattle.model.proofs.Parts.{part-length, part-lent, part-lent-length}
+use Rattle.model.proofs.Parts.{part-length}
 use Rattle.tables.specs.Settled.{Settled}
 use Rattle.model.proofs.Bounds.{header-fits}
 use Rattle.opening.proofs.Refusals.{answer-refused, answer-served}
@@ -72,7 +72,7 @@ settled c =
     let rest : List ℕ = take (length device - from) (drop from device) in
     settled-by
     (ap (λ (key : List ℕ). load (g .p) (λ (n : ℕ). storedEntry g key rest (n % g .p)) (g .p) (l .v * g .p) (l .maps) (l .owners))
-    (part-lent keys (32 * l .v) 32 refl)
+    (c .before .before .before .before .key-in .ensures .0)
     ∙ load-cong (g .p) _ (mapEntries g (headerOf g device) keys) (g .p) (l .v * g .p) (l .maps) (l .owners)
     (mapEntries-volume g (s .pre .0) device keys (l .v) (volume-most at) (s .pre .1) (at .header-start .ensures)))
     _ _ _ (c .load-volume .ensures)
@@ -110,22 +110,26 @@ loop-holds c =
       ap₂ (λ (j k : ℕ). load p f j k (a .maps .now) (a .owners .now)) z (sym (zero-mul p)),
     )
 
+key-in-requires : tie.Need-key-in-requires Inv-loop μ-loop
+key-in-requires c κs = (volume-most c, start c .pre .5)
+
 sub-load-volume : tie.Need-sub-load-volume Inv-loop μ-loop
-sub-load-volume c = omega (arith, begins c)
+sub-load-volume c = omega (arith, begins (c .before))
 
 part-load-volume-start : tie.Need-part-load-volume-start Inv-loop μ-loop
-part-load-volume-start c = omega (arith, begins c)
+part-load-volume-start c = omega (arith, begins (c .before))
 
 load-volume-requires : tie.Need-load-volume-requires Inv-loop μ-loop
 load-volume-requires c κs =
-    let at = c .before .before .before .before in
+    let keyed = c .before .before .before in
+    let at = keyed .before in
     let s = start at in
     let l = looped at .loop in
     let device = s .args .device .now in
     let from = at .header-start .result in
     let long = part-length device from (length device - from) (omega (arith, begins at)) in (
       s .pre .0,
-      part-lent-length (s .args .keys .now) (32 * l .v) 32 (omega (arith, volume-most at, s .pre .5)),
+      keyed .key-in .ensures .1,
       l .inv .1 ∙ s .pre .2,
       l .inv .2 ∙ s .pre .3,
       volume-most at,
@@ -166,29 +170,6 @@ returns-2 c =
 pub load-maps-spec : {M : Type 1} → statement M
 load-maps-spec =
     tie.close
-    (tie.spec
-    Inv-loop
-    μ-loop
-    loop-holds
-    (λ c. search needs)
-    (λ c κs. search needs)
-    (λ c. search needs)
-    (λ c. search needs)
-    sub-load-volume
-    part-load-volume-start
-    (λ c. search needs)
-    (λ c. search needs)
-    (λ c. search needs)
-    (λ c. search needs)
-    load-volume-requires
-    (λ c. search needs)
-    (λ c. search needs)
-    (λ c. search needs)
-    returns
-    (λ c. search needs)
-    (λ c. search needs)
-    (λ c. search needs)
-    loop-again
-    (λ c. search needs)
-    (λ c. search needs)
-    returns-2)
+    (tie.spec Inv-loop μ-loop loop-holds (λ c. search needs) (λ c κs. search needs) key-in-requires sub-load-volume part-load-volume-start
+    (λ c. search needs) load-volume-requires (λ c. search needs) (λ c. search needs) (λ c. search needs) returns (λ c. search needs)
+    (λ c. search needs) (λ c. search needs) loop-again (λ c. search needs) (λ c. search needs) returns-2)

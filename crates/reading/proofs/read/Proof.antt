@@ -1,5 +1,5 @@
 -- `reading::read` meets its contract. Assumes nothing.
-use Prim.Native.Nat.{ℕ, _*_, _≤_}
+use Prim.Native.Nat.{ℕ, _≤_}
 use mathlib.Core.Path.{_≡_, refl, sym, ap, ap₂, _∙_}
 use mathlib.Core.List.{List}
 use native.Mathlib.Omega.{arith}
@@ -9,7 +9,6 @@ use Rattle.refusals.specs.Numbers.{answerNumber}
 use Rattle.refusals.proofs.Positive.{answer-positive}
 use Rattle.model.specs.Session.{offsetOf}
 use Rattle.model.specs.Read.{deciphered, readRefusal}
-use Rattle.model.proofs.Parts.{part-lent}
 use Rattle.model.proofs.Requests.{Ready, readRefusal-none, asked-slot}
 use Rattle.model.proofs.Bounds.{offsetOf-lt}
 use Rattle.reading.proofs.Outcomes.{read-refused, read-served}
@@ -40,7 +39,7 @@ module _ (c : tie.After-enum-told2) where
 
 -- Where the keys are lent, the refusals are past.
 abbrev told : tie.After-keys2 → tie.After-enum-told2
-told c = c .before .before .before .before .before
+told c = c .before .before .before
 
 returns : tie.Need-returns
 returns c =
@@ -50,27 +49,27 @@ returns c =
     (refusal .read-refusal .ensures) (answer-positive (c .enum-told .given .1)))
     (refl, (refl, refl))
 
-entry-at-requires : tie.Need-entry-at-requires
-entry-at-requires c κs = let r = ready (c .before .before .before) in asked-slot (r .stands) (r .asked)
+key-in-requires : tie.Need-key-in-requires
+key-in-requires c κs = (volume-most (told c), keys-length (start (checked (told c))))
 
-part-decipher-end : tie.Need-part-decipher-end
-part-decipher-end c =
-    let passed = told c in
-    omega (arith, keys-length (start (checked passed)), volume-most passed)
+entry-at-requires : tie.Need-entry-at-requires
+entry-at-requires c κs = let r = ready (told (c .before .before)) in asked-slot (r .stands) (r .asked)
 
 decipher-requires : tie.Need-decipher-requires
 decipher-requires c κs =
-    let passed = told (c .before .before .before) in
+    let keyed = c .before .before .before .before in
+    let passed = told (keyed .before) in
     let a = start (checked passed) .args in
     let r = ready passed in
     let ok = r .stands .usable .allowed in
-    (ok, r .stands .long, search needs, offsetOf-lt (a .session .geometry) ok (a .address), r .asked .size)
+    (ok, r .stands .long, keyed .key-in .ensures .1, offsetOf-lt (a .session .geometry) ok (a .address), r .asked .size)
 
 returns-2 : tie.Need-returns-2
 returns-2 c =
     let deciphering = c .before .before in
-    let lent = deciphering .before .before .before .before in
-    let passed = told lent in
+    let entered = deciphering .before .before .before in
+    let keyed = entered .before .before in
+    let passed = told (keyed .before) in
     let a = start (checked passed) .args in
     let g = a .session .geometry in
     rw (read-served (a .device .now) (a .maps .now) (a .owners .now) (a .session) (a .volume) (a .address) (length (a .buf .now)) (none passed)) (
@@ -78,7 +77,7 @@ returns-2 c =
       (
         deciphering .decipher .ensures
             ∙ ap₂ (λ (key : List ℕ) (entry : ℕ). deciphered g key entry (offsetOf g (a .address)) (a .device .now))
-            (part-lent (a .session .keys) (32 * a .volume) 32 refl) (lent .before .entry-at .ensures),
+            (keyed .key-in .ensures .0) (entered .entry-at .ensures),
         refl,
       ),
     )
@@ -86,8 +85,7 @@ returns-2 c =
 pub read-spec : {M : Type 1} → statement M
 read-spec =
     tie.close
-    (tie.spec (λ c κs. search needs) (λ c. search needs) returns (λ c. search needs) (λ c. omega (arith, volume-most (c .before .before)))
-    (λ c. omega (arith, volume-most (c .before .before))) (λ c. ready (c .before .before .before) .stands .usable .allowed .slice-least)
-    entry-at-requires (λ c. search needs) (λ c. search needs) part-decipher-end
-    (λ c. ready (told (c .before .before)) .stands .usable .allowed .slice-least) decipher-requires
+    (tie.spec (λ c κs. search needs) (λ c. search needs) returns (λ c. search needs) (λ c. search needs) key-in-requires
+    (λ c. ready (told (c .before .before)) .stands .usable .allowed .slice-least) entry-at-requires
+    (λ c. ready (told (c .before .before .before .before)) .stands .usable .allowed .slice-least) decipher-requires
     (λ c. search needs) returns-2)

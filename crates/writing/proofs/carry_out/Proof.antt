@@ -1,15 +1,14 @@
 -- `writing::carry_out` meets its contract: what was decided is carried out with the bytes drawn. Assumes nothing.
-use Prim.Native.Nat.{ℕ, _+_, _-_, _*_, _<_, _≤_}
+use Prim.Native.Nat.{ℕ, _-_, _<_, _≤_}
 use mathlib.Core.Path.{_≡_, refl, sym, ap, subst}
 use native.Mathlib.Nat.{sub-zero, zero-add}
 use native.Mathlib.Omega.{arith}
 use lib.ListN.{length}
 use borrow.Author.Needs.{needs}
 use Rattle.model.specs.declared.Geometry.{Geometry}
-use Rattle.model.specs.Parts.{part, patched}
-use Rattle.model.specs.Session.{keyOf, slot, sliceOf}
+use Rattle.model.specs.Parts.{patched}
+use Rattle.model.specs.Session.{slot, sliceOf}
 use Rattle.model.specs.Answers.{writeResult}
-use Rattle.model.proofs.Parts.{part-lent, part-lent-length}
 use Rattle.model.proofs.Bounds.{offsetOf-lt}
 use Rattle.model.proofs.Requests.{Writable, writeRefusal-none, asked-slot}
 use Rattle.deciding.specs.declared.Decision.{Decision}
@@ -34,6 +33,9 @@ module _ (s : tie.Start) where
   says : (d : Decision) → s .args .decision ≡ d → Says d
   says d e = subst Says e (s .pre)
 
+  keys-length : length (s .args .session .keys) ≡ 480
+  keys-length = search needs
+
   module _ (perm : ℕ) (w : let a = s .args in
       Writable (length (a .device .now)) (a .maps .now) (a .owners .now) (a .session) (a .volume) (a .address) (length (a .text .now)) perm) where
     volume-small : s .args .volume ≤ 14
@@ -41,16 +43,6 @@ module _ (s : tie.Start) where
 
     slot-below : slot g (s .args .volume) (sliceOf g (s .args .address)) < length (s .args .maps .now)
     slot-below = asked-slot (w .stands) (w .asked)
-
-    -- The volume's data key, which is lent.
-    key-end : 32 * s .args .volume + 32 ≤ length (s .args .session .keys)
-    key-end = let long : length (s .args .session .keys) ≡ 480 = search needs in omega (arith, volume-small)
-
-    key-lent : let a = s .args in part (32 * a .volume) (32 * a .volume + 32 - 32 * a .volume) (a .session .keys) ≡ keyOf (a .session) (a .volume)
-    key-lent = part-lent (s .args .session .keys) (32 * s .args .volume) 32 refl
-
-    key-long : let a = s .args in length (part (32 * a .volume) (32 * a .volume + 32 - 32 * a .volume) (a .session .keys)) ≡ 32
-    key-long = part-lent-length (s .args .session .keys) (32 * s .args .volume) 32 key-end
 
 -- ---- a rewrite
 
@@ -66,17 +58,25 @@ module _ (c : tie.After-decision2) where
       (rewrites .perm)
   fit = writeRefusal-none _ _ _ _ _ _ _ _ (rewrites .none)
 
+-- Where the data key is found, a rewrite is decided.
+abbrev decided : tie.After-key-in → tie.After-decision2
+decided c = c .before .before .before .before
+
+key-in-requires : tie.Need-key-in-requires
+key-in-requires c κs = let d = c .before .before .before in (volume-small (start d) _ (fit d), keys-length (start d))
+
 rewrite-requires : tie.Need-rewrite-requires
 rewrite-requires c κs =
-    let decided = c .before .before .before .before .before .before in
-    let w = fit decided in
+    let keyed = c .before .before in
+    let d = decided keyed in
+    let w = fit d in
     let ok = w .stands .usable .allowed in (
       ok,
       w .stands .long,
-      key-long (start decided) _ w,
-      rewrites decided .slice,
-      offsetOf-lt (g (start decided)) ok (start decided .args .address),
-      rewrites decided .drawn-all,
+      keyed .key-in .ensures .1,
+      rewrites d .slice,
+      offsetOf-lt (g (start d)) ok (start d .args .address),
+      rewrites d .drawn-all,
       w .asked .size,
     )
 
@@ -94,32 +94,44 @@ module _ (c : tie.After-decision3) where
       (claims .0 .perm)
   fit′ = writeRefusal-none _ _ _ _ _ _ _ _ (claims .0 .none)
 
+-- Where the data key is found, a claim is decided; and the claim, from where the tables are assigned.
+abbrev decided′ : tie.After-key-in2 → tie.After-decision3
+decided′ c = c .before .before .before .before
+
+abbrev claimed : tie.After-struct-known3 → tie.After-claim
+claimed c = c .before .before .before .before .before
+
+abbrev keyed : tie.After-claim → tie.After-key-in2
+keyed c = c .before .before .before
+
+key-in-requires-2 : tie.Need-key-in-requires-2
+key-in-requires-2 c κs = let d = c .before .before .before in (volume-small (start′ d) _ (fit′ d), keys-length (start′ d))
+
 claim-requires : tie.Need-claim-requires
 claim-requires c κs =
-    let decided = c .before .before .before .before .before .before in
-    let w = fit′ decided in
-    let ready = claims decided .0 in
-    (w .stands .usable .allowed, w .stands .long, key-long (start′ decided) _ w, ready .slice, ready .drawn-all, w .asked .size)
+    let found = c .before .before in
+    let d = decided′ found in
+    let w = fit′ d in
+    let ready = claims d .0 in
+    (w .stands .usable .allowed, w .stands .long, found .key-in2 .ensures .1, ready .slice, ready .drawn-all, w .asked .size)
 
 assign-requires : tie.Need-assign-requires
 assign-requires c κs =
-    let claimed = c .before .before .before .before .before .before in
-    let decided = claimed .before .before .before .before .before .before in
-    let w = fit′ decided in
+    let d = decided′ (keyed (claimed c)) in
+    let w = fit′ d in
     let most = w .stands .usable .allowed .slices-most in (
       omega (arith, w .stands .tables .0, most),
-      slot-below (start′ decided) _ w,
-      rw (w .stands .tables .1) (claims decided .0 .slice),
-      omega (arith, claims decided .0 .slice, most),
-      volume-small (start′ decided) _ w,
+      slot-below (start′ d) _ w,
+      rw (w .stands .tables .1) (claims d .0 .slice),
+      omega (arith, claims d .0 .slice, most),
+      volume-small (start′ d) _ w,
     )
 
 add-served : tie.Need-add-served
 add-served c =
-    let assigned = c .before .before .before .before .before in
-    let claimed = assigned .before .before .before .before .before .before in
-    let decided = claimed .before .before .before .before .before .before in
-    omega (arith, claims decided .1, fit′ decided .stands .usable .allowed .slices-most)
+    let assigned = c .before .before .before .before in
+    let d = decided′ (keyed (claimed (assigned .before))) in
+    omega (arith, claims d .1, fit′ d .stands .usable .allowed .slices-most)
 
 -- ---- what is left
 
@@ -140,12 +152,12 @@ returns-2 : tie.Need-returns-2
 unfolding patched
 returns-2 c =
     let written = c .before .before .before in
-    let lent = written .before .before .before .before in
-    let decided = lent .before .before .before in
-    rw (decided .decision2 .given .1, part-all (start decided .args .drawn .now) 16 (rewrites decided .drawn-all))
+    let found = written .before .before .before in
+    let d = decided found in
+    rw (d .decision2 .given .1, part-all (start d .args .drawn .now) 16 (rewrites d .drawn-all))
     (record {
       answered = ap writeResult (c .served .ensures .0);
-      stored = rw (key-lent (start decided) _ (fit decided)) at (written .rewrite .ensures);
+      stored = rw (found .key-in .ensures .0) at (written .rewrite .ensures);
       mapped = refl;
       owned = refl;
       moved = refl;
@@ -156,54 +168,32 @@ returns-3 : tie.Need-returns-3
 unfolding patched
 returns-3 c =
     let assigned = c .before .before .before .before .before in
-    let claimed = assigned .before .before .before .before .before .before in
-    let lent = claimed .before .before .before .before in
-    let decided = lent .before .before .before in
-    let all = part-all (start′ decided .args .drawn .now) (g (start′ decided) .b) (claims decided .0 .drawn-all) in
-    rw (decided .decision3 .given .1, all, sub-zero _)
+    let written = assigned .before .before .before .before .before .before in
+    let found = written .before .before .before in
+    let d = decided′ found in
+    let all = part-all (start′ d .args .drawn .now) (g (start′ d) .b) (claims d .0 .drawn-all) in
+    rw (d .decision3 .given .1, all, sub-zero _)
     (record {
       answered = ap writeResult (c .served2 .ensures .0);
-      stored = rw (key-lent (start′ decided) _ (fit′ decided)) at (claimed .claim .ensures);
+      stored = rw (found .key-in2 .ensures .0) at (written .claim .ensures);
       mapped = assigned .assign .ensures .0;
       owned = assigned .assign .ensures .1;
       moved = sym (zero-add _);
       handed = c .served2 .ensures .1;
     })
 
-mul-from : tie.Need-mul-from
-mul-from c = omega (arith, volume-small (start (c .before .before)) _ (fit (c .before .before)))
-
-add-to : tie.Need-add-to
-add-to c = omega (arith, volume-small (start (c .before .before)) _ (fit (c .before .before)))
-
-part-rewrite-end : tie.Need-part-rewrite-end
-part-rewrite-end c = key-end (start (c .before .before .before .before)) _ (fit (c .before .before .before .before))
-
 rem-rewrite : tie.Need-rem-rewrite
-rem-rewrite c = fit (c .before .before .before .before .before .before) .stands .usable .allowed .slice-least
-
-mul-from-2 : tie.Need-mul-from-2
-mul-from-2 c = omega (arith, volume-small (start′ (c .before .before)) _ (fit′ (c .before .before)))
-
-add-to-2 : tie.Need-add-to-2
-add-to-2 c = omega (arith, volume-small (start′ (c .before .before)) _ (fit′ (c .before .before)))
-
-part-claim-end : tie.Need-part-claim-end
-part-claim-end c = key-end (start′ (c .before .before .before .before)) _ (fit′ (c .before .before .before .before))
+rem-rewrite c = fit (decided (c .before .before)) .stands .usable .allowed .slice-least
 
 rem-claim : tie.Need-rem-claim
-rem-claim c = fit′ (c .before .before .before .before .before .before) .stands .usable .allowed .slice-least
+rem-claim c = fit′ (decided′ (c .before .before)) .stands .usable .allowed .slice-least
 
 div-assign : tie.Need-div-assign
-div-assign c =
-    let claimed = c .before .before .before .before .before .before in
-    let decided = claimed .before .before .before .before .before .before in
-    fit′ decided .stands .usable .allowed .slice-least
+div-assign c = fit′ (decided′ (keyed (claimed c))) .stands .usable .allowed .slice-least
 
 pub carry-out-spec : {M : Type 1} → statement M
 carry-out-spec =
     tie.close
-    (tie.spec (λ c. search needs) (λ c κs. search needs) (λ c. search needs) mul-from add-to (λ c. search needs) (λ c. search needs) part-rewrite-end
-    rem-rewrite rewrite-requires (λ c κs. search needs) (λ c. search needs) mul-from-2 add-to-2 (λ c. search needs) (λ c. search needs) part-claim-end
-    rem-claim claim-requires div-assign assign-requires add-served (λ c κs. search needs) returns (λ c. search needs) returns-2 (λ c. search needs)
-    (λ c. search needs) (λ c. search needs) returns-3)
+    (tie.spec (λ c. search needs) (λ c κs. search needs) (λ c. search needs) (λ c. search needs) key-in-requires rem-rewrite rewrite-requires
+    (λ c κs. search needs) (λ c. search needs) (λ c. search needs) key-in-requires-2 rem-claim claim-requires div-assign assign-requires
+    add-served (λ c κs. search needs) returns (λ c. search needs) returns-2 (λ c. search needs) (λ c. search needs) (λ c. search needs) returns-3)
