@@ -42,7 +42,8 @@ module _ (c : tie.After-first-free) where
 returns : tie.Need-returns
 returns c =
     let called = c .before .before .before in
-    refused-first _ _ _ _ _ _ _ _ _ _ (c .before .bad .given .0 .0) (sym (ap answerNumber (c .before .bad .given .1)) ∙ called .write-refusal .ensures)
+    refused-first _ _ _ _ _ _ _ _ _ _ (c .before .bad .given .0 .0)
+    (sym (ap answerNumber (c .before .bad .given .1)) ∙ called .write-refusal .ensures)
 
 returns-2 : tie.Need-returns-2
 returns-2 c =

@@ -30,7 +30,9 @@ check-asked-requires c κs = let s = stands (c .before .before .before) in (s .u
 
 returns-3 : tie.Need-returns-3
 unfolding writeRefusal refuse
-returns-3 c = c .check-asked .ensures ∙ sym (standing-stands _ _ _ _ _ (stands (c .before .before .before .before)) ∙ simp (eq-eqb _ _ (c .before .if1 .left)))
+returns-3 c =
+    c .check-asked .ensures
+    ∙ sym (standing-stands _ _ _ _ _ (stands (c .before .before .before .before)) ∙ simp (eq-eqb _ _ (c .before .if1 .left)))
 
 pub write-refusal-spec : {M : Type 1} → statement M
 write-refusal-spec =
