@@ -53,6 +53,7 @@ heldAfter h (Closes tape (CloseResult.Refused n)) = h
 heldAfter h (Reads i a room r) = h
 heldAfter h (Finds i a bytes) = h
 
+-- After a list of events.
 unfoldable pub heldAfterAll : Held → List Event → Held
 heldAfterAll h [] = h
 heldAfterAll h (e ∷ es) = heldAfterAll (heldAfter h e) es
@@ -101,6 +102,7 @@ storedBy h (Closes tape (CloseResult.Refused n)) = []
 storedBy h (Reads i a room r) = []
 storedBy h (Finds i a bytes) = []
 
+-- By a list of events, each storing by what is held when it comes.
 unfoldable pub storedByAll : Held → List Event → List Patch
 storedByAll h [] = []
 storedByAll h (e ∷ es) = storedBy h e ++ storedByAll (heldAfter h e) es
