@@ -1,0 +1,4 @@
+pub mod Numbers
+pub mod Structs
+pub mod Answers
+pub mod Theorems

@@ -1,0 +1,60 @@
+-- The structs that the C functions are lent (include/hiwalgam.h), as bytes: every field is eight bytes or a list of bytes whose
+-- length is a multiple of eight, so that C leaves no gap between them. Of each: whether bytes have its size, what they hold, and
+-- the bytes that are written to it. Assumes nothing.
+use Prim.Native.Nat.{ℕ}
+use mathlib.Core.Bool.{Bool, true, false}
+use mathlib.Core.List.{List, _++_}
+use lib.ListN.{length}
+use lib.Dec.{eqb}
+use Rattle.model.specs.declared.Geometry.{Geometry}
+use Rattle.model.specs.declared.Session.{Session}
+use Rattle.model.specs.declared.Change.{Change}
+use Rattle.model.specs.declared.Change.the-variants.{Claimed, Rewritten}
+use Rattle.model.specs.Parts.{part}
+use Rattle.model.specs.Answers.{changeSlice}
+use Rattle.model.specs.Write.{WriteResult}
+use Rattle.records.specs.Numbers.{eightAt, eightBytes, threeBytes}
+
+-- Whether bytes are as many as a struct has.
+abbrev pub sized : (size : ℕ) → List ℕ → Bool
+sized size r = eqb (length r) size
+
+-- The number 1 for true, 0 for false.
+abbrev pub bitOf : Bool → ℕ
+bitOf true = 1
+bitOf false = 0
+
+-- ---- hiwalgam_geometry: B, S, P
+
+abbrev pub geometrySized : List ℕ → Bool
+geometrySized r = sized 24 r
+
+abbrev pub geometryIn : List ℕ → Geometry
+geometryIn r = record { b = eightAt 0 r; s = eightAt 8 r; p = eightAt 16 r }
+
+abbrev pub geometryBytes : Geometry → List ℕ
+geometryBytes g = threeBytes (g .b) (g .s) (g .p)
+
+-- ---- hiwalgam_session: its geometry, k, 1 where it is open, the 15 data keys
+
+abbrev pub sessionSized : List ℕ → Bool
+sessionSized r = sized 520 r
+
+abbrev pub sessionIn : List ℕ → Session
+sessionIn r = record { geometry = geometryIn r; k = eightAt 24 r; keys = part 40 480 r; opened = eqb (eightAt 32 r) 1 }
+
+abbrev pub sessionBytes : Session → List ℕ
+sessionBytes s = geometryBytes (s .geometry) ++ (eightBytes (s .k) ++ (eightBytes (bitOf (s .opened)) ++ s .keys))
+
+-- ---- hiwalgam_written: 1 where a slice was claimed, the slice that was claimed or rewritten, the places looked at
+
+abbrev pub writtenSized : List ℕ → Bool
+writtenSized r = sized 24 r
+
+abbrev pub changeClaimed : Change → Bool
+changeClaimed (Claimed ψ) = true
+changeClaimed (Rewritten ψ) = false
+
+abbrev pub writtenBytes : WriteResult → List ℕ
+writtenBytes (WriteResult.Served change probes) = threeBytes (bitOf (changeClaimed change)) (changeSlice change) probes
+writtenBytes (WriteResult.Refused n probes) = threeBytes 0 0 probes

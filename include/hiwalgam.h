@@ -1,0 +1,234 @@
+/*
+ * Hiwalgam: the proved engine of an encrypted memory stick with up to 15 nested volumes.
+ *
+ * A device is the image of a stick, held in memory. A key opens a volume and all volumes below it;
+ * what lies above is noise. docs/FORMAT.md describes the device, the calls and their refusals.
+ *
+ * Every function takes any arguments and returns HIWALGAM_SERVED or the first refusal that applies.
+ * A refused call changes nothing that it was lent, but for the session and the tables of an opening and
+ * the answer of a write, as said there. No function keeps anything between two calls.
+ *
+ * What the caller has to keep to, everywhere:
+ *
+ * - Each pointer is followed by a length: of a list the number of its elements, of a struct its sizeof.
+ *   The pointer is valid for that length, and what is not const may be written.
+ * - uint32_t and size_t are aligned as the ABI says. Bytes and structs may stand anywhere.
+ * - NULL may be passed with length 0. The position of the tape is never NULL.
+ * - The buffers of one call do not overlap, but for those that are const.
+ * - One session at a time: from an opening to its close nothing but these calls alters device, tables,
+ *   tape position and session. Tape bytes are random, and none is used for two calls.
+ * - The platform is x86-64 Linux: 64-bit size_t, numbers with the least significant byte first. A call
+ *   takes up to 64 KiB of stack.
+ *
+ * Link with libhiwalgam.a, which needs nothing but memcpy and memset of the C library.
+ */
+#ifndef HIWALGAM_H
+#define HIWALGAM_H
+
+#include <stddef.h>
+#include <stdint.h>
+
+#ifdef __cplusplus
+extern "C" {
+#endif
+
+/* What a call answers. */
+enum hiwalgam_answer {
+    HIWALGAM_SERVED = 0,
+    HIWALGAM_BAD_GEOMETRY = 1,    /* the size of blocks, the blocks in a slice or the number of slices is not allowed */
+    HIWALGAM_DEVICE_LENGTH = 2,   /* the device is not as long as the geometry says */
+    HIWALGAM_KEY_LENGTH = 3,      /* the key is not 32 bytes */
+    HIWALGAM_TABLE_LENGTH = 4,    /* the map table has not 15 entries for each slice, or the owner table not one */
+    HIWALGAM_BAD_PERMUTATION = 5, /* the permutation does not name each slice once */
+    HIWALGAM_NO_CELL = 6,         /* the key opens no key cell */
+    HIWALGAM_HEADER_TAG = 7,      /* the tag of a header that is needed is wrong */
+    HIWALGAM_HEADER_GEOMETRY = 8, /* a header was made for another geometry */
+    HIWALGAM_BAD_ENTRY = 9,       /* a map entry is neither a slice nor the mark of an unmapped one */
+    HIWALGAM_SLICE_TWICE = 10,    /* a slice is mapped twice */
+    HIWALGAM_VOLUME_ABOVE = 11,   /* the volume is above the opened one */
+    HIWALGAM_ADDRESS_ABOVE = 12,  /* the block is past the end of the volume */
+    HIWALGAM_WRONG_LENGTH = 13,   /* a buffer, text, IV, tag, associated data or struct is not as long as it has to be */
+    HIWALGAM_MALFORMED_LINE = 14, /* of the program slicewalk; no function answers it */
+    HIWALGAM_TAG_DIFFERS = 15,    /* the tag is wrong */
+    HIWALGAM_NOT_OPEN = 20,       /* the session is closed, or holds numbers that are not allowed */
+    HIWALGAM_TAPE_SHORT = 21,     /* the tape has not as many bytes left as the call needs */
+    HIWALGAM_NO_FREE_SLICE = 22   /* no slice is free for a claim */
+};
+
+/* Volumes of a stick, and the bytes of a key and of an IV. */
+#define HIWALGAM_VOLUMES 15
+#define HIWALGAM_KEY_BYTES 32
+#define HIWALGAM_IV_BYTES 16
+#define HIWALGAM_GCM_IV_BYTES 12
+#define HIWALGAM_GCM_TAG_BYTES 16
+
+/* The map entry of a logical slice that has no slice. */
+#define HIWALGAM_UNMAPPED 0xffffffffu
+
+/* The longest text of counter mode and of GCM, the longest associated data, and the last byte to begin at. */
+#define HIWALGAM_TEXT_LIMIT 4096
+#define HIWALGAM_GCM_TEXT_LIMIT 256
+#define HIWALGAM_GCM_AAD_LIMIT 16
+#define HIWALGAM_POSITION_LIMIT 1099511627776u
+
+/* How a device is divided: B, S and P. */
+typedef struct hiwalgam_geometry {
+    uint64_t block_bytes;  /* B: 1024 or 4096 */
+    uint64_t slice_blocks; /* S: 1 to B / 16 */
+    uint64_t slices;       /* P: 1 to 4096 */
+} hiwalgam_geometry;
+
+/*
+ * A session. hiwalgam_open makes it, hiwalgam_close ends it, and the caller hands it from call to call as
+ * it is. It holds the keys of the open volumes.
+ */
+typedef struct hiwalgam_session {
+    hiwalgam_geometry geometry;
+    uint64_t volume; /* the opened volume k: it and all below it are open */
+    uint64_t open;   /* 1 for open, anything else for closed */
+    uint8_t keys[HIWALGAM_VOLUMES * HIWALGAM_KEY_BYTES];
+} hiwalgam_session;
+
+/* What a write did. */
+typedef struct hiwalgam_written {
+    uint64_t claimed; /* 1 where it claimed a slice, 0 where it rewrote a block or was refused */
+    uint64_t slice;   /* the slice that it claimed or rewrote; 0 where it was refused */
+    uint64_t probes;  /* the places of the permutation that it looked at */
+} hiwalgam_written;
+
+/* The bytes of the structs, the same in every translation unit. */
+#define HIWALGAM_GEOMETRY_BYTES 24
+#define HIWALGAM_SESSION_BYTES 520
+#define HIWALGAM_WRITTEN_BYTES 24
+
+#if defined(__cplusplus) && __cplusplus >= 201103L
+static_assert(sizeof(hiwalgam_geometry) == HIWALGAM_GEOMETRY_BYTES, "hiwalgam_geometry");
+static_assert(sizeof(hiwalgam_session) == HIWALGAM_SESSION_BYTES, "hiwalgam_session");
+static_assert(sizeof(hiwalgam_written) == HIWALGAM_WRITTEN_BYTES, "hiwalgam_written");
+static_assert(sizeof(size_t) == 8, "a platform of 64 bits");
+#elif defined(__STDC_VERSION__) && __STDC_VERSION__ >= 201112L
+_Static_assert(sizeof(hiwalgam_geometry) == HIWALGAM_GEOMETRY_BYTES, "hiwalgam_geometry");
+_Static_assert(sizeof(hiwalgam_session) == HIWALGAM_SESSION_BYTES, "hiwalgam_session");
+_Static_assert(sizeof(hiwalgam_written) == HIWALGAM_WRITTEN_BYTES, "hiwalgam_written");
+_Static_assert(sizeof(size_t) == 8, "a platform of 64 bits");
+#endif
+
+/*
+ * Opens a device with a key: the lowest volume whose cell the key opens, and all below it.
+ *
+ * maps has 15 x P entries, owners P, and permutation P, which name each of the slices 0 to P - 1 once.
+ * Entry l of volume v stands at maps[v * P + l]: the slice, or HIWALGAM_UNMAPPED. owners[s] is 0 where slice
+ * s is free, and v + 1 where volume v holds it.
+ *
+ * Refused by 13 (geometry or session of another size; everything stays), 1, 2, 3, 4, 5 (the tables stay),
+ * 6, 7, 8, 9, 10 (entries become HIWALGAM_UNMAPPED, owners 0). A refused opening but the 13 leaves a session
+ * that is closed, all zeros.
+ */
+uint8_t hiwalgam_open(const uint8_t *device, size_t device_length,
+                      const hiwalgam_geometry *geometry, size_t geometry_size,
+                      const uint8_t *key, size_t key_length,
+                      uint32_t *maps, size_t maps_length,
+                      uint8_t *owners, size_t owners_length,
+                      const uint32_t *permutation, size_t permutation_length,
+                      hiwalgam_session *session, size_t session_size);
+
+/*
+ * Reads a block of an open volume into buffer, which has B bytes. A block that was never written is zeros.
+ *
+ * Refused by 13 (session of another size), 20, 2, 4, 11, 12, 13 (buffer), 9.
+ */
+uint8_t hiwalgam_read(const uint8_t *device, size_t device_length,
+                      const uint32_t *maps, size_t maps_length,
+                      const uint8_t *owners, size_t owners_length,
+                      const hiwalgam_session *session, size_t session_size,
+                      uint64_t volume, uint64_t address,
+                      uint8_t *buffer, size_t buffer_length);
+
+/*
+ * Finds the ciphertext of a block: returns its length, B, or 0 where the block has no slice or a read of it
+ * would be refused. It is copied to the start of out where out has room for it; the rest of out stays.
+ */
+size_t hiwalgam_find(const uint8_t *device, size_t device_length,
+                     const uint32_t *maps, size_t maps_length,
+                     const uint8_t *owners, size_t owners_length,
+                     const hiwalgam_session *session, size_t session_size,
+                     uint64_t volume, uint64_t address,
+                     uint8_t *out, size_t out_length);
+
+/*
+ * Writes a block of an open volume: text has B bytes. Where the block's logical slice has a slice, the block
+ * is rewritten there and takes 16 bytes of the tape. Otherwise the first free slice in the order of the
+ * permutation is claimed, and takes B bytes of the tape. *position is the next unused byte of the tape.
+ *
+ * A claim is on the device, but in its maps only after hiwalgam_close: a session that is not closed loses it.
+ *
+ * Refused by 13 (session or written of another size), 20, 2, 4, 5 (length), 11, 12, 13 (text), 9; a claim by
+ * 5 (a place that names no slice) or 22; both by 21. written is set, refused or not, unless its size is wrong.
+ */
+uint8_t hiwalgam_write(uint8_t *device, size_t device_length,
+                       uint32_t *maps, size_t maps_length,
+                       uint8_t *owners, size_t owners_length,
+                       const uint32_t *permutation, size_t permutation_length,
+                       const uint8_t *tape, size_t tape_length, size_t *position,
+                       hiwalgam_session *session, size_t session_size,
+                       uint64_t volume, uint64_t address,
+                       const uint8_t *text, size_t text_length,
+                       hiwalgam_written *written, size_t written_size);
+
+/*
+ * Closes a session: the maps of the open volumes go to the device, with 16 bytes of the tape for each map
+ * block; then every entry is HIWALGAM_UNMAPPED, every owner 0, and the session closed, its keys zeros.
+ *
+ * Refused by 13 (session of another size), 20, 2, 4, 9, 21.
+ */
+uint8_t hiwalgam_close(uint8_t *device, size_t device_length,
+                       uint32_t *maps, size_t maps_length,
+                       uint8_t *owners, size_t owners_length,
+                       const uint8_t *tape, size_t tape_length, size_t *position,
+                       hiwalgam_session *session, size_t session_size);
+
+/*
+ * AES-256 in counter mode (SP 800-38A): key 32 bytes, IV 16, text 0 to 4,096, out as long as the text.
+ * Refused by 3, 13.
+ */
+uint8_t hiwalgam_counter_mode(const uint8_t *key, size_t key_length,
+                              const uint8_t *iv, size_t iv_length,
+                              const uint8_t *text, size_t text_length,
+                              uint8_t *out, size_t out_length);
+
+/*
+ * The same for a text that begins at byte `position` of a longer one, at most HIWALGAM_POSITION_LIMIT.
+ * Refused by 3, 13.
+ */
+uint8_t hiwalgam_keystream_at(const uint8_t *key, size_t key_length,
+                              const uint8_t *iv, size_t iv_length,
+                              uint64_t position,
+                              const uint8_t *text, size_t text_length,
+                              uint8_t *out, size_t out_length);
+
+/*
+ * AES-256-GCM (SP 800-38D): key 32 bytes, IV 12, associated data 0 to 16, text 0 to 256, out as long as the
+ * text, tag 16. Refused by 3, 13.
+ */
+uint8_t hiwalgam_gcm_seal(const uint8_t *key, size_t key_length,
+                          const uint8_t *iv, size_t iv_length,
+                          const uint8_t *aad, size_t aad_length,
+                          const uint8_t *text, size_t text_length,
+                          uint8_t *out, size_t out_length,
+                          uint8_t *tag, size_t tag_length);
+
+/*
+ * Its opening, with the same lengths. Refused by 3, 13, and by 15 where the tag is wrong: out stays then.
+ */
+uint8_t hiwalgam_gcm_open(const uint8_t *key, size_t key_length,
+                          const uint8_t *iv, size_t iv_length,
+                          const uint8_t *aad, size_t aad_length,
+                          const uint8_t *text, size_t text_length,
+                          const uint8_t *tag, size_t tag_length,
+                          uint8_t *out, size_t out_length);
+
+#ifdef __cplusplus
+}
+#endif
+
+#endif
