@@ -1,6 +1,6 @@
 // A demonstration of the engine: a small device image with two volumes is made, opened, written, read, closed and opened
-// again, and every answer is printed. Keys, IVs and tape are fixed bytes here, so that each run prints the same; a real
-// device draws them at random.
+// again with either key and with one that opens nothing, and every answer is printed. Keys, IVs and tape are fixed bytes here,
+// so that each run prints the same; a real device draws them at random.
 ghost use mathlib.Core.Path.{_≡_};
 ghost use Prim.Native.Nat.{_+_, _*_, _<_};
 ghost use lib.ListN.{length};
@@ -85,15 +85,22 @@ fn geometry() -> Geometry {
     }
 }
 
-// The caller's key, the VMK and the VEK of volume 0 or 1.
+// The caller's keys: of volume 0, of volume 1, and one of no volume.
 fn caller_key(i: usize) -> [u8; 32] {
-    [(1 + i % 2) as u8; 32]
+    [(1 + i % 3) as u8; 32]
 }
 
+// The VMK of volume 0 or 1.
 fn master_key(i: usize) -> [u8; 32] {
     [(64 + i % 2) as u8; 32]
 }
 
+// What header 0 or 1 holds as the VMK below: nothing lies below volume 0.
+fn key_below(i: usize) -> [u8; 32] {
+    if i == 0 { [0u8; 32] } else { master_key(0) }
+}
+
+// The VEK of volume 0 or 1.
 fn data_key(i: usize) -> [u8; 32] {
     [(128 + i % 2) as u8; 32]
 }
@@ -126,7 +133,7 @@ fn header_text(i: usize) -> [u8; 72]
 {
     let mut text = [0u8; 72];
     places::store(&mut text, 0, &data_key(i));
-    places::store(&mut text, 32, &master_key(i + 1));
+    places::store(&mut text, 32, &key_below(i));
     places::put_number(&mut text, 64, 4);
     places::put_number(&mut text, 68, 4);
     text
@@ -191,13 +198,14 @@ fn make_image(device: &mut [u8])
 // ---- the calls
 
 fn show_open(
+    words: &[u8],
     device: &[u8],
     key: usize,
     maps: &mut [u32],
     owners: &mut [u8],
     perm: &[u32],
 ) -> Session {
-    say(b"open with key ");
+    say(words);
     say_number(key);
     say(b": ");
     let o = opening::open(device, geometry(), &caller_key(key), maps, owners, perm);
@@ -207,35 +215,32 @@ fn show_open(
     session
 }
 
-fn show_read(
-    device: &[u8],
-    maps: &[u32],
-    owners: &[u8],
-    session: Session,
-    volume: usize,
-    buf: &mut [u8],
-) {
+// The first bytes of a block that was read.
+fn show_bytes(buf: &[u8]) {
+    if 4 <= buf.len() {
+        say(b", the block begins");
+        let mut i = 0;
+        while i < 4 {
+            say(b" ");
+            say_number(buf[i] as usize);
+            i += 1;
+        }
+    }
+}
+
+fn show_read(device: &[u8], maps: &[u32], owners: &[u8], session: Session, volume: usize) {
     say(b"read block 5 of volume ");
     say_number(volume);
     say(b": ");
-    let r = reading::read(device, maps, owners, session, volume, 5, buf);
+    let mut buf = [255u8; 1024];
+    let r = reading::read(device, maps, owners, session, volume, 5, &mut buf);
     let answer = r.answer;
     say_answer(answer);
-    say(b"\n");
-}
-
-// The first bytes of a block that was read.
-fn show_bytes(buf: &[u8]) {
-    if 16 <= buf.len() {
-        say(b"  the buffer begins: ");
-        let mut i = 0;
-        while i < 16 {
-            say_number(buf[i] as usize);
-            say(b" ");
-            i += 1;
-        }
-        say(b"\n");
+    match answer {
+        Answer::Served => show_bytes(&buf),
+        Answer::Refused(_) => {}
     }
+    say(b"\n");
 }
 
 fn show_write(
@@ -269,23 +274,8 @@ fn show_write(
     say_write(answer, position);
 }
 
-// A device opened with a key, and block 5 of volume 1 read.
-fn show_look(
-    device: &[u8],
-    key: usize,
-    maps: &mut [u32],
-    owners: &mut [u8],
-    perm: &[u32],
-    block: &mut [u8],
-) -> Session {
-    let session = show_open(device, key, maps, owners, perm);
-    show_read(device, maps, owners, session, 1, block);
-    show_bytes(block);
-    session
-}
-
-// Block 5 of a volume written twice.
-fn show_writes(
+// Block 5 of volume 1 written twice: claimed, then rewritten.
+fn show_twice(
     device: &mut [u8],
     maps: &mut [u32],
     owners: &mut [u8],
@@ -293,11 +283,25 @@ fn show_writes(
     tape: &[u8],
     at: &mut usize,
     session: Session,
-    volume: usize,
     text: &[u8],
 ) {
-    show_write(device, maps, owners, perm, tape, at, session, volume, text);
-    show_write(device, maps, owners, perm, tape, at, session, volume, text);
+    show_write(device, maps, owners, perm, tape, at, session, 1, text);
+    show_write(device, maps, owners, perm, tape, at, session, 1, text);
+}
+
+// Block 5 of volume 0, which is open too, and of volume 2, which is above the opened one.
+fn show_others(
+    device: &mut [u8],
+    maps: &mut [u32],
+    owners: &mut [u8],
+    perm: &[u32],
+    tape: &[u8],
+    at: &mut usize,
+    session: Session,
+) {
+    let text = [7u8; 1024];
+    show_write(device, maps, owners, perm, tape, at, session, 0, &text);
+    show_write(device, maps, owners, perm, tape, at, session, 2, &text);
 }
 
 fn show_find(device: &[u8], maps: &[u32], owners: &[u8], session: Session) {
@@ -326,7 +330,7 @@ fn show_close(
     closed
 }
 
-// The requests of one session, the last for a volume above the opened one.
+// The writes of one session, and where the block of volume 1 is found.
 fn show_requests(
     device: &mut [u8],
     maps: &mut [u32],
@@ -337,12 +341,12 @@ fn show_requests(
     session: Session,
     text: &[u8],
 ) {
-    show_writes(device, maps, owners, perm, tape, at, session, 1, text);
-    show_writes(device, maps, owners, perm, tape, at, session, 2, text);
+    show_twice(device, maps, owners, perm, tape, at, session, text);
+    show_others(device, maps, owners, perm, tape, at, session);
     show_find(device, maps, owners, session);
 }
 
-// What an open session is asked, and its close.
+// What an open session is asked, its close, and a request after it.
 fn show_work(
     device: &mut [u8],
     maps: &mut [u32],
@@ -354,48 +358,64 @@ fn show_work(
 ) {
     let mut at: usize = 0;
     show_requests(device, maps, owners, perm, tape, &mut at, session, text);
-    show_close(device, maps, owners, tape, &mut at, session);
+    let closed = show_close(device, maps, owners, tape, &mut at, session);
+    show_read(device, maps, owners, closed, 1);
 }
 
-// One session: open, read, write, write again, ask above the opened volume, find, close.
+// One session with key 1.
 fn show_session(
     device: &mut [u8],
     maps: &mut [u32],
     owners: &mut [u8],
     perm: &[u32],
     tape: &[u8],
-    block: &mut [u8],
+    text: &[u8],
 ) {
-    let session = show_look(device, 1, maps, owners, perm, block);
-    fill(block);
-    show_work(device, maps, owners, perm, tape, session, block);
+    let session = show_open(b"open with key ", device, 1, maps, owners, perm);
+    show_read(device, maps, owners, session, 1);
+    show_work(device, maps, owners, perm, tape, session, text);
 }
 
-// The device opened again, with either key.
-fn show_again(device: &[u8], maps: &mut [u32], owners: &mut [u8], perm: &[u32], block: &mut [u8]) {
-    show_look(device, 1, maps, owners, perm, block);
-    show_look(device, 0, maps, owners, perm, block);
+// The device opened again with key 1: what was written is there.
+fn show_upper(device: &[u8], maps: &mut [u32], owners: &mut [u8], perm: &[u32]) {
+    let session = show_open(b"open again with key ", device, 1, maps, owners, perm);
+    show_read(device, maps, owners, session, 1);
 }
 
-fn show(device: &mut [u8], tape: &[u8], block: &mut [u8]) {
+// With key 0: volume 0 as before, and no volume 1.
+fn show_lower(device: &[u8], maps: &mut [u32], owners: &mut [u8], perm: &[u32]) {
+    let session = show_open(b"open again with key ", device, 0, maps, owners, perm);
+    show_read(device, maps, owners, session, 0);
+    show_read(device, maps, owners, session, 1);
+}
+
+// With each key, and with one that opens nothing.
+fn show_again(device: &[u8], maps: &mut [u32], owners: &mut [u8], perm: &[u32]) {
+    show_upper(device, maps, owners, perm);
+    show_lower(device, maps, owners, perm);
+    show_open(b"open again with key ", device, 2, maps, owners, perm);
+}
+
+fn show(device: &mut [u8], tape: &[u8], text: &[u8]) {
     let perm = [2u32, 0, 3, 1];
     let mut maps = [0u32; 60];
     let mut owners = [0u8; 4];
-    show_session(device, &mut maps, &mut owners, &perm, tape, block);
-    show_again(device, &mut maps, &mut owners, &perm, block);
+    show_session(device, &mut maps, &mut owners, &perm, tape, text);
+    show_again(device, &mut maps, &mut owners, &perm);
 }
 
-fn run(device: &mut [u8], tape: &mut [u8], block: &mut [u8])
+fn run(device: &mut [u8], tape: &mut [u8], text: &mut [u8])
     requires { ⌜ length (now device) ≡ 52224 ⌝ }
 {
     make_image(device);
     fill(tape);
-    show(device, tape, block);
+    fill(text);
+    show(device, tape, text);
 }
 
 fn main() {
     let mut device = [0u8; 52224];
     let mut tape = [0u8; 4096];
-    let mut block = [0u8; 1024];
-    run(&mut device, &mut tape, &mut block);
+    let mut text = [0u8; 1024];
+    run(&mut device, &mut tape, &mut text);
 }
