@@ -1,4 +1,4 @@
--- Point 2 of the mission, call by call: each open volume is an array of blocks, and each request has the answer that it is
+-- Point 2, call by call: each open volume is an array of blocks, and each request has the answer that it is
 -- due. Assumes nothing.
 use Prim.Native.Nat.{ℕ, _+_, _≤_, _<_}
 use mathlib.Core.Path.{_≡_}

@@ -1,5 +1,5 @@
 -- What each call stores on the device and what is held after it, from the request and its answer alone (document 01, "Write",
--- "Close", and "Two sticks compared": the bytes "that the rules for the last call writing there give"). The words are the
+-- "Close", and "Two sticks compared": written places hold the bytes of the last call that wrote there). The words are the
 -- document's and not the model's. Assumes nothing.
 use Prim.Native.Nat.{ℕ, zero, suc, _+_, _*_}
 use mathlib.Core.Path.{_≡_}

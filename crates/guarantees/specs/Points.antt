@@ -1,4 +1,4 @@
--- The three points of the mission, as statements about the model. Assumes nothing.
+-- The three points (README.md, "What is proved"), as statements about the model. Assumes nothing.
 use Prim.Native.Nat.{ℕ, _+_, _*_, _≤_, _<_}
 use mathlib.Core.Path.{_≡_}
 use mathlib.Core.List.{List, []}

@@ -1,5 +1,5 @@
--- Point 1 of the mission: the listed refusals of each call in their listed order, each with its condition (document 01,
--- "Refused for ..", and the orders below the tables). The conditions are the document's, in their own words and not the
+-- Point 1 (README.md, "What is proved"): the listed refusals of each call in their listed order, each with its condition
+-- (document 01, "Refused for ..", and the orders of the calls). The conditions are the document's, in their own words and not the
 -- model's. Assumes nothing.
 use Prim.Native.Nat.{ℕ, _+_, _*_, _≤_, _<_}
 use mathlib.Core.Path.{_≡_}

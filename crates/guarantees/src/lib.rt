@@ -1,4 +1,4 @@
-// The guarantees: the three points of the mission as theorems about the model, points 2 and 3 about lists of calls.
+// The guarantees: the three points (README.md, "What is proved") as theorems about the model, points 2 and 3 about lists of calls.
 // Each function here runs nothing; its `ensures` is the statement that the check has to prove.
 ghost use Rattle.guarantees.specs.Points.{Point1, Points23, NoSliceTwice};
 

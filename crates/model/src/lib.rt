@@ -88,7 +88,7 @@ pub fn model_laws()
     ensures { λ r. ⌜ ModelLaws ⌝ }
 {}
 
-// The starred bench cases of document 01.
+// The bench cases of document 01, the starred ones and two more.
 pub fn bench_cases()
     ensures { λ r. ⌜ AllHold cases ⌝ }
 {}

@@ -1,5 +1,5 @@
--- The state of a walk, and the engine's write on it (document 01, "The walk program": "claims on empty maps, all 15 volumes
--- open, no ciphers, tape endless"). Assumes nothing.
+-- The state of a walk, and the engine's write on it (document 01, "The walk program": on empty maps, with all 15 volumes
+-- open, without ciphers, on a tape that never ends). Assumes nothing.
 use Prim.Native.Nat.{ℕ, _*_}
 use mathlib.Core.List.{List, []}
 use mathlib.Core.Bool.{Bool, true, false}
