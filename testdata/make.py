@@ -1,0 +1,1584 @@
+#!/usr/bin/env python3
+"""Makes the images and transcripts of this folder.
+
+This script is a third witness beside the proved engine and the plain Rust build. It is written from the paper on format
+and requests alone, uses neither of the two, and its AES is somebody else's: that of the Python package `cryptography`.
+Whatever the two builds have in common, a misreading of the paper for example, shows where their answers differ from those
+written here.
+
+    python3 make.py            writes the files beside the script
+    python3 make.py --check    writes nothing, and tells which files are not what the script makes
+
+It needs Python 3.8 and the package `cryptography` (Debian: python3-cryptography). Every key, IV, filler and tape comes
+from SHA-256 over a name and a counter, so that each run gives the same bytes.
+
+The parts: noise, ciphers, layout, the making of images, a model of the calls, transcripts, scenarios. README.md describes
+the transcripts. The answers in the scenarios are written by hand; the model has to arrive at the same ones, and gives the
+tables, bytes and positions that follow from them.
+"""
+
+import hashlib
+import os
+import sys
+from collections import namedtuple
+
+from cryptography.exceptions import InvalidTag
+from cryptography.hazmat.primitives.ciphers import Cipher, algorithms, modes
+from cryptography.hazmat.primitives.ciphers.aead import AESGCM
+
+MARK = 0xFFFFFFFF  # the entry of an unmapped logical slice
+VOLUMES = 15
+NO_KEY = bytes(32)
+FF16 = bytes([255] * 16)
+
+
+# ---------------------------------------------------------------------------------------------------------------- noise
+
+
+class Noise:
+    """Bytes without a pattern that are the same at each run: SHA-256(name, counter), counter 0, 1, 2 .. in eight bytes."""
+
+    def __init__(self, name):
+        self.name = name.encode()
+        self.counter = 0
+        self.rest = b""
+
+    def take(self, count):
+        parts = [self.rest]
+        held = len(self.rest)
+        while held < count:
+            parts.append(hashlib.sha256(self.name + self.counter.to_bytes(8, "big")).digest())
+            self.counter += 1
+            held += 32
+        whole = b"".join(parts)
+        self.rest = whole[count:]
+        return whole[:count]
+
+    def shuffled(self, items):
+        items = list(items)
+        for place in range(len(items) - 1, 0, -1):
+            other = int.from_bytes(self.take(8), "big") % (place + 1)
+            items[place], items[other] = items[other], items[place]
+        return items
+
+
+# -------------------------------------------------------------------------------------------------------------- ciphers
+
+
+def counter_mode(key, iv, text):
+    """AES-256 in counter mode: the IV is the first counter, each next adds one, all FF is followed by all 00."""
+    assert len(key) == 32 and len(iv) == 16
+    first = int.from_bytes(iv, "big")
+    blocks = (len(text) + 15) // 16
+    counters = b"".join(((first + n) % 2**128).to_bytes(16, "big") for n in range(blocks))
+    stream = Cipher(algorithms.AES(key), modes.ECB()).encryptor().update(counters)
+    out = bytes(a ^ b for a, b in zip(text, stream))
+    assert out == Cipher(algorithms.AES(key), modes.CTR(iv)).encryptor().update(bytes(text))
+    return out
+
+
+def seal(key, iv, text, associated):
+    """AES-256-GCM as it stands on the device: IV 12, ciphertext, tag 16."""
+    assert len(key) == 32 and len(iv) == 12
+    return iv + AESGCM(key).encrypt(iv, text, associated)
+
+
+def unseal(key, sealed, associated):
+    """The text of what seal gave, or None where the tag is wrong."""
+    try:
+        return AESGCM(key).decrypt(bytes(sealed[:12]), bytes(sealed[12:]), associated)
+    except InvalidTag:
+        return None
+
+
+# --------------------------------------------------------------------------------------------------------------- layout
+
+
+def number(n):
+    """A number on the device: four bytes, most significant first."""
+    return n.to_bytes(4, "big")
+
+
+def number_at(data, at):
+    return int.from_bytes(data[at : at + 4], "big")
+
+
+class Geometry(namedtuple("Geometry", "B S P")):
+    """B bytes in a block, S data blocks in a slice, P slices. Places are given in bytes from the device's beginning."""
+
+    def allowed(self):
+        return self.B in (1024, 4096) and 1 <= self.S <= self.B // 16 and 1 <= self.P <= 4096
+
+    @property
+    def entries(self):
+        """Entries in a map block, behind its IV."""
+        return (self.B - 16) // 4
+
+    @property
+    def m(self):
+        """Map blocks of a volume."""
+        return -(-self.P // self.entries)
+
+    @property
+    def H(self):
+        """Header blocks: the master block, then for each volume a header block and its map blocks."""
+        return 1 + VOLUMES * (1 + self.m)
+
+    @property
+    def length(self):
+        return self.B * (self.H + self.P * (self.S + 1))
+
+    def cell(self, i):
+        return 16 + 60 * i
+
+    def header(self, i):
+        return self.B * (1 + i * (1 + self.m))
+
+    def map_block(self, i, n):
+        return self.header(i) + self.B * (1 + n)
+
+    def slice(self, psi):
+        return self.B * (self.H + psi * (self.S + 1))
+
+    def iv(self, psi, j):
+        """The IV of data block j, in the slice's IV block."""
+        return self.slice(psi) + 16 * j
+
+    def data(self, psi, j):
+        return self.slice(psi) + self.B * (1 + j)
+
+
+CELL = 12 + 32 + 16
+HEADER = 12 + 72 + 16
+
+
+def check_layout():
+    """The paper's own cases."""
+    bench = Geometry(1024, 4, 4)
+    assert (bench.m, bench.H, bench.length) == (1, 31, 52224)
+    assert Geometry(1024, 1, 252).m == 1
+    assert (Geometry(1024, 1, 253).m, Geometry(1024, 1, 253).H) == (2, 46)
+    large = Geometry(4096, 256, 4096)
+    assert (large.m, large.H, large.length) == (5, 91, 4312117248)
+    assert Geometry(1024, 64, 1).allowed() and not Geometry(1024, 65, 1).allowed()
+    assert not Geometry(1024, 1, 0).allowed() and not Geometry(1024, 1, 4097).allowed()
+    assert (bench.cell(14), bench.cell(14) + CELL - 1) == (856, 915)
+    assert bench.data(2, 3) == 1024 * 45 == 46080
+
+
+# ----------------------------------------------------------------------------------------------------- making of images
+
+
+def put(device, at, data):
+    assert 0 <= at and at + len(data) <= len(device)
+    device[at : at + len(data)] = data
+
+
+class Image:
+    """A device image in the making. It is noise at first; cells, headers, maps and data blocks are put in one by one."""
+
+    def __init__(self, name, geometry):
+        self.g = geometry
+        self.noise = Noise(name)
+        self.device = bytearray(self.noise.take(geometry.length))
+        self.key = [self.noise.take(32) for _ in range(VOLUMES)]
+        self.vmk = [self.noise.take(32) for _ in range(VOLUMES)]
+        self.vek = [self.noise.take(32) for _ in range(VOLUMES)]
+        self.below = [self.noise.take(32)] + self.vmk[:-1]  # what is held below volume 0 is ignored: noise
+
+    def sealed_cell(self, i, key=None, associated=None):
+        associated = bytes([i]) if associated is None else associated
+        return seal(self.key[i] if key is None else key, self.noise.take(12), self.vmk[i], associated)
+
+    def sealed_header(self, i, P=None, S=None, associated=None):
+        text = self.vek[i] + self.below[i]
+        text += number(self.g.P if P is None else P) + number(self.g.S if S is None else S)
+        associated = bytes([16 + i]) if associated is None else associated
+        return seal(self.vmk[i], self.noise.take(12), text, associated)
+
+    def enciphered_map(self, i, entries, iv=None):
+        """A map block of volume i, or its beginning."""
+        iv = self.noise.take(16) if iv is None else iv
+        return iv + counter_mode(self.vek[i], iv, b"".join(number(e) for e in entries))
+
+    def put_cell(self, i, **other):
+        put(self.device, self.g.cell(i), self.sealed_cell(i, **other))
+
+    def put_header(self, i, **other):
+        put(self.device, self.g.header(i), self.sealed_header(i, **other))
+
+    def put_map(self, i, row, past=(), ivs=()):
+        """All map blocks of volume i: entries 0 to P - 1, then `past` in the places past the last, or else the mark."""
+        assert len(row) == self.g.P
+        e = self.g.entries
+        whole = list(row) + list(past)
+        whole += [MARK] * (self.g.m * e - len(whole))
+        for n in range(self.g.m):
+            iv = ivs[n] if n < len(ivs) else None
+            put(self.device, self.g.map_block(i, n), self.enciphered_map(i, whole[n * e : n * e + e], iv))
+
+    def put_block(self, i, psi, j, text, iv=None):
+        """Data block j of slice psi for volume i, with an IV of its own or the noise that stands there."""
+        at = self.g.iv(psi, j)
+        if iv is not None:
+            put(self.device, at, iv)
+        put(self.device, self.g.data(psi, j), counter_mode(self.vek[i], bytes(self.device[at : at + 16]), text))
+
+    def put_volume(self, i, row, **other):
+        self.put_cell(i)
+        self.put_header(i)
+        self.put_map(i, row, **other)
+
+    def flip(self, at, bits):
+        self.device[at] ^= bits
+
+
+# -------------------------------------------------------------------------------------------------- a model of the calls
+
+Session = namedtuple("Session", "B S P k open keys")
+
+# What a refused opening hands back: closed, all numbers and keys 0.
+NO_SESSION = Session(0, 0, 0, 0, 0, (NO_KEY,) * VOLUMES)
+
+
+class Refused(Exception):
+    """A refusal with its number and the probes that it carries."""
+
+    def __init__(self, number, probes=0):
+        super().__init__(number)
+        self.number = number
+        self.probes = probes
+
+
+class Lent:
+    """Everything that a caller lends or hands in from call to call."""
+
+    def __init__(self):
+        self.device = bytearray()
+        self.geometry = Geometry(0, 0, 0)
+        self.maps = []  # entry sigma of volume i stands at i * P + sigma
+        self.owners = []
+        self.permutation = []
+        self.tape = b""
+        self.position = 0
+        self.session = NO_SESSION
+        self.stored = []  # the places written by the call, for the transcript
+
+    def store(self, at, data):
+        put(self.device, at, data)
+        self.stored.append((at, bytes(data)))
+
+    def draw(self, count, probes=0):
+        """The next tape bytes, each used once. 21 where fewer are left, or the position is past the end."""
+        if self.position > len(self.tape) or len(self.tape) - self.position < count:
+            raise Refused(21, probes)
+        data = self.tape[self.position : self.position + count]
+        self.position += count
+        return data
+
+
+def open_device(lent, key):
+    """Answers k. The geometry, the tables and the permutation are those lent."""
+    lent.session = NO_SESSION
+    g, device = lent.geometry, lent.device
+    if not g.allowed():
+        raise Refused(1)
+    if len(device) != g.length:
+        raise Refused(2)
+    if len(key) != 32:
+        raise Refused(3)
+    if len(lent.maps) != VOLUMES * g.P or len(lent.owners) != g.P:
+        raise Refused(4)
+    if sorted(lent.permutation) != list(range(g.P)):
+        raise Refused(5)
+
+    # From here on a refusal leaves marks and owners 0.
+    lent.maps = [MARK] * (VOLUMES * g.P)
+    lent.owners = [0] * g.P
+
+    # Cells 0, 1, 2 .. are tried, and the lowest that opens is taken.
+    k, vmk = 0, None
+    while vmk is None:
+        if k == VOLUMES:
+            raise Refused(6)
+        vmk = unseal(key, device[g.cell(k) : g.cell(k) + CELL], bytes([k]))
+        k += vmk is None
+
+    # Header k gives the VMK below, down to 0.
+    keys = [NO_KEY] * VOLUMES
+    for i in range(k, -1, -1):
+        text = unseal(vmk, device[g.header(i) : g.header(i) + HEADER], bytes([16 + i]))
+        if text is None:
+            raise Refused(7)
+        if number_at(text, 64) != g.P or number_at(text, 68) != g.S:
+            raise Refused(8)
+        keys[i], vmk = text[:32], text[32:64]
+
+    # Then the maps are read, volume 0 to k, entry by entry.
+    maps = list(lent.maps)
+    owners = list(lent.owners)
+    for i in range(k + 1):
+        entries = b""
+        for n in range(g.m):
+            at = g.map_block(i, n)
+            entries += counter_mode(keys[i], bytes(device[at : at + 16]), bytes(device[at + 16 : at + 16 + 4 * g.entries]))
+        for sigma in range(g.P):
+            entry = number_at(entries, 4 * sigma)
+            if entry == MARK:
+                continue
+            if entry >= g.P:
+                raise Refused(9)
+            if owners[entry] != 0:
+                raise Refused(10)
+            maps[i * g.P + sigma] = entry
+            owners[entry] = i + 1
+
+    lent.maps, lent.owners = maps, owners
+    lent.session = Session(g.B, g.S, g.P, k, 1, tuple(keys))
+    return k
+
+
+def standing(lent):
+    """What read, write and close refuse first: 20, 2, 4. Gives the session's geometry."""
+    session = lent.session
+    g = Geometry(session.B, session.S, session.P)
+    if session.open != 1 or not g.allowed() or session.k > 14:
+        raise Refused(20)
+    if len(lent.device) != g.length:
+        raise Refused(2)
+    if len(lent.maps) != VOLUMES * g.P or len(lent.owners) != g.P:
+        raise Refused(4)
+    return g
+
+
+def asked(lent, g, volume, address, length):
+    """What read and write refuse next: 11, 12, 13, 9. Gives the place of the asked entry, the entry, and the offset."""
+    if volume > lent.session.k:
+        raise Refused(11)
+    if address >= g.P * g.S:
+        raise Refused(12)
+    if length != g.B:
+        raise Refused(13)
+    place = volume * g.P + address // g.S
+    entry = lent.maps[place]
+    if entry != MARK and entry >= g.P:
+        raise Refused(9)
+    return place, entry, address % g.S
+
+
+def read(lent, volume, address, length):
+    """The block's bytes, for a buffer of that length. Unmapped gives B zero bytes."""
+    g = standing(lent)
+    _, psi, j = asked(lent, g, volume, address, length)
+    if psi == MARK:
+        return bytes(g.B)
+    iv = bytes(lent.device[g.iv(psi, j) : g.iv(psi, j) + 16])
+    return counter_mode(lent.session.keys[volume], iv, bytes(lent.device[g.data(psi, j) : g.data(psi, j) + g.B]))
+
+
+def find(lent, volume, address):
+    """Length and place of the block's ciphertext; empty where a read with a right buffer is refused, or unmapped."""
+    try:
+        g = standing(lent)
+        _, psi, j = asked(lent, g, volume, address, g.B)
+    except Refused:
+        return 0, 0
+    return (0, 0) if psi == MARK else (g.B, g.data(psi, j))
+
+
+def write(lent, volume, address, text):
+    """Answers claimed or rewritten, the slice, and the probes."""
+    g = standing(lent)
+    if len(lent.permutation) != g.P:
+        raise Refused(5)
+    place, psi, j = asked(lent, g, volume, address, len(text))
+    vek = lent.session.keys[volume]
+
+    if psi != MARK:
+        iv = lent.draw(16)
+        lent.store(g.iv(psi, j), iv)
+        lent.store(g.data(psi, j), counter_mode(vek, iv, text))
+        return "rewritten", psi, 0
+
+    # The claim takes the first place in the permutation whose slice has owner 0.
+    probes = 0
+    while True:
+        if probes == g.P:
+            raise Refused(22, probes)
+        psi = lent.permutation[probes]
+        probes += 1
+        if psi >= g.P:
+            raise Refused(5, probes)
+        if lent.owners[psi] == 0:
+            break
+
+    # B tape bytes become the whole IV block; all S data blocks are written, zeros except the one asked for.
+    ivs = lent.draw(g.B, probes)
+    blocks = [counter_mode(vek, ivs[16 * n : 16 * n + 16], text if n == j else bytes(g.B)) for n in range(g.S)]
+    lent.store(g.slice(psi), ivs + b"".join(blocks))
+    lent.maps[place] = psi
+    lent.owners[psi] = volume + 1
+    return "claimed", psi, probes
+
+
+def close(lent):
+    """Writes the maps of volumes 0 to k in order, each block with a fresh IV, and wipes tables and keys."""
+    g = standing(lent)
+    session = lent.session
+    rows = [lent.maps[i * g.P : (i + 1) * g.P] for i in range(session.k + 1)]
+    if any(entry != MARK and entry >= g.P for row in rows for entry in row):
+        raise Refused(9)
+    ivs = lent.draw(16 * g.m * (session.k + 1))
+    for i, row in enumerate(rows):
+        whole = row + [MARK] * (g.m * g.entries - g.P)
+        for n in range(g.m):
+            iv, ivs = ivs[:16], ivs[16:]
+            entries = whole[n * g.entries : (n + 1) * g.entries]
+            lent.store(g.map_block(i, n), iv + counter_mode(session.keys[i], iv, b"".join(number(e) for e in entries)))
+    lent.maps = [MARK] * (VOLUMES * g.P)
+    lent.owners = [0] * g.P
+    lent.session = session._replace(open=0, keys=(NO_KEY,) * VOLUMES)
+
+
+# ---------------------------------------------------------------------------------------------------------- transcripts
+
+FILES = {}  # name: bytes, everything that is written at the end
+LARGEST = 2**64
+
+
+def add(file, data):
+    """Adds bytes to a file, or finds them there, and gives the words FILE OFFSET."""
+    whole = FILES.setdefault(file, b"")
+    at = whole.find(data)
+    if at < 0:
+        at = len(whole)
+        FILES[file] = whole + data
+    return f"{file} {at}"
+
+
+def text(name, B):
+    """A plain text of B bytes in numbered lines, so that no two pieces of it are alike."""
+    lines = "".join(f"{name}, line {n}\n" for n in range(B))
+    return lines.encode()[:B]
+
+
+def tape(name, length, **at):
+    """Tape bytes: noise, and at positions `at_N` the bytes given. Gives the words that name it in a transcript."""
+    data = bytearray(Noise("tape " + name).take(length))
+    for place, piece in at.items():
+        put(data, int(place[3:]), piece)
+    return f"{add('tapes.bin', bytes(data))} {length}"
+
+
+def entry_word(entry):
+    return "-" if entry == MARK else str(entry)
+
+
+def words(items):
+    return " ".join(str(item) for item in items)
+
+
+def hexed(data):
+    return data.hex() if data else "-"
+
+
+def session_words(session):
+    """The numbers, then the keys of volumes 0, 1 .. up to the last one that is not zeros."""
+    keys = list(session.keys)
+    while keys and keys[-1] == NO_KEY:
+        keys.pop()
+    return words([session.B, session.S, session.P, session.k, session.open] + [key.hex() for key in keys])
+
+
+def apply(lent, line):
+    """Sets what a line `given ..` or `then ..` says."""
+    kind, *rest = line.split(" ")
+    if kind in ("device", "bytes", "tape"):
+        file, numbers = (rest[0], rest[1:]) if kind != "bytes" else (rest[1], rest[:1] + rest[2:])
+        numbers = [int(n) for n in numbers]
+        start = 0 if kind == "device" else numbers[-2]
+        data = FILES[file][start : start + numbers[-1]]
+        assert len(data) == numbers[-1], line
+        if kind == "device":
+            lent.device = bytearray(data)
+        elif kind == "tape":
+            lent.tape = data
+        else:
+            put(lent.device, numbers[0], data)
+        return
+    if kind == "session":
+        keys = [bytes.fromhex(key) for key in rest[5:]]
+        lent.session = Session(*[int(n) for n in rest[:5]], tuple(keys + [NO_KEY] * (VOLUMES - len(keys))))
+        return
+    values = [MARK if word == "-" else int(word) for word in rest]
+    assert all(0 <= value < LARGEST for value in values), line
+    if kind == "zeros":
+        lent.device = bytearray(values[0])
+    elif kind == "geometry":
+        lent.geometry = Geometry(*values)
+    elif kind == "maps":
+        lent.maps = [values[1]] * values[0]
+    elif kind == "row":
+        assert len(values) == 1 + lent.geometry.P, line
+        lent.maps[values[0] * lent.geometry.P : (values[0] + 1) * lent.geometry.P] = values[1:]
+    elif kind == "entry":
+        lent.maps[values[0] * lent.geometry.P + values[1]] = values[2]
+    elif kind == "owners":
+        lent.owners = values
+    elif kind == "owner":
+        lent.owners[values[0]] = values[1]
+    elif kind == "permutation":
+        lent.permutation = values
+    else:
+        assert kind == "position", line
+        lent.position = values[0]
+
+
+class Transcript:
+    """Runs a scenario on the model and writes it down. Each call has its expected answer as an argument."""
+
+    def __init__(self, name, *about):
+        self.name = name
+        self.lines = [f"# {line}" for line in about]
+        self.lent = Lent()
+        self.after = None  # the image that the device ends as
+
+    def say(self, *about):
+        self.lines += [""] + [f"# {line}" for line in about]
+
+    def given(self, line):
+        apply(self.lent, line)
+        self.lines.append(f"given {line}")
+
+    def given_bytes(self, at, data):
+        self.given(f"bytes {at} {add('patches.bin', data)} {len(data)}")
+
+    def lend(self, image, geometry, permutation, tape_words="tapes.bin 0 0", position=0):
+        """Everything for a device of that geometry."""
+        FILES.setdefault("tapes.bin", b"")
+        self.given(f"geometry {words(geometry)}")
+        self.given(f"device {image} {len(FILES[image])}")
+        self.given(f"maps {VOLUMES * geometry.P} -")
+        self.given(f"owners {words([0] * geometry.P)}")
+        self.given(f"permutation {words(permutation)}")
+        self.given(f"tape {tape_words}")
+        self.given(f"position {position}")
+
+    def called(self, line, expected, outcome, thens):
+        """Writes a call down, with what it is to leave, which has to be all that the model left."""
+        where = f"{self.name}: {line} = {outcome}, not {expected}"
+        assert outcome == expected, where
+        self.lines.append(f"{line} = {outcome}" + self.tail)
+        for at, data in self.lent.stored:
+            self.lines.append((at, data))
+        self.lines += [f"then {then}" for then in thens]
+        self.lines.append("compare")
+
+        for at, data in self.lent.stored:
+            put(self.before.device, at, data)
+        for then in thens:
+            apply(self.before, then)
+        for part in ("device", "geometry", "maps", "owners", "permutation", "tape", "position", "session"):
+            assert getattr(self.before, part) == getattr(self.lent, part), f"{where}: {part}"
+
+    def begin(self):
+        self.tail = ""
+        self.before = Lent()
+        self.before.__dict__.update(self.lent.__dict__)
+        for part in ("device", "maps", "owners"):
+            setattr(self.before, part, getattr(self.lent, part)[:])
+        self.lent.stored = []
+
+    def spoil(self):
+        """Before an opening: other tables and another session than a refusal leaves, so that leaving them shows."""
+        if self.lent.session == NO_SESSION:
+            self.given(f"session 4096 3 2 1 1 {Noise('no session').take(32).hex()}")
+        if all(entry == MARK for entry in self.lent.maps):
+            self.given(f"maps {len(self.lent.maps)} 2")
+        if not any(self.lent.owners):
+            self.given(f"owners {words((3 * n + 1) % 256 for n in range(len(self.lent.owners)))}")
+
+    def open(self, key, expected):
+        self.spoil()
+        self.begin()
+        P = self.lent.geometry.P
+        try:
+            outcome = f"0 {open_device(self.lent, key)}"
+            thens = [f"maps {VOLUMES * P} -"]
+            for i in range(VOLUMES):
+                row = self.lent.maps[i * P : (i + 1) * P]
+                if any(entry != MARK for entry in row):
+                    thens.append(f"row {i} {words(map(entry_word, row))}")
+            thens.append(f"owners {words(self.lent.owners)}")
+        except Refused as refused:
+            outcome = str(refused.number)
+            thens = [f"maps {VOLUMES * P} -", f"owners {words([0] * P)}"] if refused.number >= 6 else []
+        self.called(f"open {hexed(key)}", expected, outcome, thens + [f"session {session_words(self.lent.session)}"])
+
+    def read(self, volume, address, expected, text=None, length=None):
+        self.begin()
+        length = self.lent.session.B if length is None else length
+        try:
+            data = read(self.lent, volume, address, length)
+            outcome = "0"
+            assert text is None or data == text, f"{self.name}: read {volume} {address}"
+            self.tail = " " + add("texts.bin", data)
+        except Refused as refused:
+            outcome = str(refused.number)
+        self.called(f"read {volume} {address} {length}", expected, outcome, [])
+
+    def reads(self, *expected):
+        """Served reads: volume, address, and the text, or None for zeros."""
+        for volume, address, text in expected:
+            self.read(volume, address, "0", bytes(self.lent.session.B) if text is None else text)
+
+    def find(self, volume, address, expected):
+        self.begin()
+        length, at = find(self.lent, volume, address)
+        # No other place has the same bytes, so that a copy of the part tells its place.
+        assert not length or bytes(self.lent.device).count(self.lent.device[at : at + length]) == 1
+        self.called(f"find {volume} {address}", expected, f"{length} {at}" if length else "0", [])
+
+    def write(self, volume, address, text, expected):
+        self.begin()
+        thens = []
+        try:
+            kind, psi, probes = write(self.lent, volume, address, text)
+            outcome = f"0 {kind} {psi} {probes}"
+            if kind == "claimed":
+                thens = [f"entry {volume} {address // self.lent.session.S} {psi}", f"owner {psi} {volume + 1}"]
+            thens.append(f"position {self.lent.position}")
+        except Refused as refused:
+            outcome = f"{refused.number} {refused.probes}"
+        self.called(f"write {volume} {address} {add('texts.bin', text)} {len(text)}", expected, outcome, thens)
+
+    def close(self, expected):
+        self.begin()
+        try:
+            close(self.lent)
+            outcome = "0"
+            P = self.lent.session.P
+            thens = [f"maps {VOLUMES * P} -", f"owners {words([0] * P)}", f"position {self.lent.position}"]
+            thens.append(f"session {session_words(self.lent.session)}")
+        except Refused as refused:
+            outcome = str(refused.number)
+            thens = []
+        self.called("close", expected, outcome, thens)
+
+    def image(self, name):
+        """The device is now a file of its own, whole."""
+        FILES[name] = bytes(self.lent.device)
+        self.after = name
+        self.lines.append(f"image {name}")
+
+    def finish(self):
+        """Stored bytes are named where the last image still has them; the others go to a file for them."""
+        last = FILES[self.after] if self.after else b""
+        out = []
+        for line in self.lines:
+            if not isinstance(line, str):
+                at, data = line
+                where = f"{self.after} {at}" if last[at : at + len(data)] == data else add("patches.bin", data)
+                line = f"then bytes {at} {where} {len(data)}"
+            out.append(line)
+        assert all(len(line) < 2048 for line in out)
+        FILES[self.name] = ("\n".join(out) + "\n").encode()
+
+
+# ------------------------------------------------------------------------------------------------------------ scenarios
+
+SMALL = Geometry(1024, 4, 4)
+
+
+def small_text(volume, address, version="first"):
+    return text(f"{version} text of block {address} of volume {volume}", 1024)
+
+
+# Every block that is written in small.img: volume, slice, offset, and its IV where it is not noise.
+SMALL_BLOCKS = {
+    (0, 4): (2, 0, None),
+    (0, 7): (2, 3, FF16),
+    (1, 13): (0, 1, Noise("iv 1").take(12) + FF16[:4]),
+    (1, 14): (0, 2, None),
+    (2, 0): (3, 0, None),
+    (2, 1): (3, 1, Noise("iv 2").take(14) + FF16[:2]),
+    (2, 2): (3, 2, Noise("iv 3").take(8) + FF16[:8]),
+    (2, 3): (3, 3, FF16[:15] + b"\xf0"),
+}
+
+
+def small_image():
+    """Volumes 0 to 2. Slice 2 is held by volume 0, slice 0 by volume 1, slice 3 by volume 2; slice 1 is free."""
+    image = Image("small.img", SMALL)
+    image.put_volume(0, [MARK, 2, MARK, MARK])
+    image.put_volume(1, [MARK, MARK, MARK, 0], ivs=[FF16])
+    image.put_volume(2, [3, MARK, MARK, MARK])
+    for volume, psi in ((0, 2), (1, 0), (2, 3)):
+        for j in range(4):
+            image.put_block(volume, psi, j, bytes(1024))
+    for (volume, address), (psi, j, iv) in SMALL_BLOCKS.items():
+        image.put_block(volume, psi, j, small_text(volume, address), iv)
+    return image
+
+
+def small_blocks(*volumes):
+    """What the blocks of the mapped slices of small.img hold, and one block before or behind each."""
+    for volume, addresses in ((0, range(3, 9)), (1, range(11, 16)), (2, range(0, 5))):
+        for address in addresses:
+            if volume in volumes:
+                yield volume, address, small_text(volume, address) if (volume, address) in SMALL_BLOCKS else None
+
+
+def small():
+    """The life of a session."""
+    image = small_image()
+    FILES["small.img"] = bytes(image.device)
+    key = image.key
+    t = Transcript("small.txt", "A session from opening to close, and what the next one finds.")
+    t.lend(
+        "small.img",
+        SMALL,
+        [2, 0, 3, 1],
+        # At 23 the IV block of a claim: its blocks 0 to 3 have their IVs at 23, 39, 55, 71. At 1047 the IV of a rewrite.
+        # At 1095 those of a close: volumes 0 to 2 at 1095, 1111, 1127.
+        tape("small", 1280, at_39=FF16, at_55=FF16[:15] + b"\xfe", at_1051=FF16[:12], at_1111=FF16),
+        7,
+    )
+    t.say("Key 0 opens volume 0 alone.")
+    t.open(key[0], "0 0")
+    t.reads(*small_blocks(0))
+    t.read(1, 13, "11")
+    t.find(1, 13, "0")
+    t.say("Key 1 opens volumes 0 and 1.")
+    t.open(key[1], "0 1")
+    t.reads(*small_blocks(0, 1))
+    t.read(2, 0, "11")
+    t.say("Key 2 opens all three.")
+    t.open(key[2], "0 2")
+    t.reads(*small_blocks(0, 1, 2))
+    t.reads((0, 0, None), (0, 15, None), (1, 0, None), (2, 15, None))
+    t.read(0, 16, "12")
+    t.read(3, 0, "11")
+    t.say("Finds: the part's length and place.")
+    t.find(0, 7, "1024 46080")
+    t.find(0, 4, "1024 43008")
+    t.find(1, 12, "1024 32768")
+    t.find(1, 13, "1024 33792")
+    t.find(2, 0, "1024 48128")
+    t.find(2, 3, "1024 51200")
+    t.find(0, 0, "0")
+    t.find(0, 16, "0")
+    t.find(3, 0, "0")
+    t.say("A rewrite, with the 16 tape bytes at the position.")
+    t.write(0, 7, small_text(0, 7, "second"), "0 rewritten 2 0")
+    t.reads((0, 7, small_text(0, 7, "second")), (0, 4, small_text(0, 4)), (0, 6, None))
+    t.find(0, 7, "1024 46080")
+    t.say("A claim: the only free slice stands last in the permutation.")
+    t.write(1, 1, small_text(1, 1), "0 claimed 1 4")
+    t.reads((1, 0, None), (1, 1, small_text(1, 1)), (1, 2, None), (1, 3, None), (0, 1, None), (1, 13, small_text(1, 13)))
+    t.find(1, 1, "1024 38912")
+    t.say("No slice is free.")
+    t.write(2, 15, small_text(2, 15), "22 4")
+    t.reads((2, 15, None))
+    t.say("Rewrites in the claimed slice, one block twice, and in another volume.")
+    t.write(1, 2, small_text(1, 2), "0 rewritten 1 0")
+    t.reads((1, 1, small_text(1, 1)), (1, 2, small_text(1, 2)), (1, 3, None))
+    t.write(2, 0, small_text(2, 0, "second"), "0 rewritten 3 0")
+    t.write(1, 2, small_text(1, 2, "second"), "0 rewritten 1 0")
+    t.reads((1, 2, small_text(1, 2, "second")), (2, 0, small_text(2, 0, "second")), (2, 1, small_text(2, 1)))
+    t.say("The close, and the device as it leaves it.")
+    t.close("0")
+    t.image("small-after.img")
+    t.say("Nothing is served by a closed session.")
+    t.read(0, 7, "20")
+    t.find(0, 7, "0")
+    t.write(0, 7, small_text(0, 7), "20 0")
+    t.close("20")
+    t.say("The next opening, with another permutation.")
+    t.given("permutation 1 3 0 2")
+    t.open(key[2], "0 2")
+    t.reads(
+        (0, 4, small_text(0, 4)),
+        (0, 5, None),
+        (0, 7, small_text(0, 7, "second")),
+        (1, 0, None),
+        (1, 1, small_text(1, 1)),
+        (1, 2, small_text(1, 2, "second")),
+        (1, 3, None),
+        (1, 13, small_text(1, 13)),
+        (1, 14, small_text(1, 14)),
+        (2, 0, small_text(2, 0, "second")),
+        (2, 1, small_text(2, 1)),
+        (2, 2, small_text(2, 2)),
+        (2, 3, small_text(2, 3)),
+        (2, 15, None),
+    )
+    t.say("The maps went to each volume's own place: key 0 and key 1 open as before.")
+    t.open(key[0], "0 0")
+    t.reads((0, 7, small_text(0, 7, "second")))
+    t.open(key[1], "0 1")
+    t.reads((0, 7, small_text(0, 7, "second")), (1, 1, small_text(1, 1)), (1, 14, small_text(1, 14)))
+    t.finish()
+
+
+def above():
+    """Claims that are not closed, and claims below a volume that is not open."""
+    image = small_image()
+    key = image.key
+    t = Transcript("above.txt", "Claims that are lost, and slices that volumes above k lose.")
+    t.lend("small.img", SMALL, [0, 1, 2, 3], tape("above", 5632, at_16=FF16), 0)
+    t.say("A claim without a close is lost: the next opening finds the slice free and the block unmapped.")
+    t.open(key[2], "0 2")
+    t.write(0, 0, small_text(0, 0), "0 claimed 1 2")
+    t.reads((0, 0, small_text(0, 0)))
+    t.open(key[2], "0 2")
+    t.reads((0, 0, None))
+    t.find(0, 0, "0")
+    t.write(2, 9, small_text(2, 9), "0 claimed 1 2")
+    t.reads((2, 8, None), (2, 9, small_text(2, 9)))
+    t.say("With key 0 the slices of volumes 1 and 2 are free, and claims take them, each one the next.")
+    t.given("permutation 3 2 0 1")
+    t.open(key[0], "0 0")
+    t.write(0, 3, small_text(0, 3), "0 claimed 3 1")
+    t.write(0, 8, small_text(0, 8), "0 claimed 0 3")
+    t.write(0, 14, small_text(0, 14), "0 claimed 1 4")
+    t.reads((0, 3, small_text(0, 3)), (0, 4, small_text(0, 4)), (0, 8, small_text(0, 8)), (0, 14, small_text(0, 14)))
+    t.close("0")
+    t.open(key[0], "0 0")
+    t.reads((0, 2, None), (0, 3, small_text(0, 3)), (0, 8, small_text(0, 8)), (0, 14, small_text(0, 14)), (0, 15, None))
+    t.say("Volume 1 maps slice 0 still, and so both keys above find a slice mapped twice.")
+    t.open(key[1], "10")
+    t.open(key[2], "10")
+    t.open(key[0], "0 0")
+    t.finish()
+
+
+def refusals():
+    """The refusals of each call in their order, and that nothing is changed."""
+    image = small_image()
+    key = image.key
+    wrong = Noise("no key").take(32)
+    whole = "device small.img 52224"
+    t = Transcript(
+        "refusals.txt",
+        "Every refusal, mostly with the conditions of later ones standing too. A refused call changes nothing, but for the",
+        "session of a refused opening and, from 6 on, its tables.",
+    )
+    good_tables = ["maps 60 2", "owners 7 0 255 1"]
+    t.lend("small.img", SMALL, [2, 0, 3, 1], tape("refusals", 4096), 0)
+    t.open(key[1], "0 1")
+
+    t.say("Opening, 1: geometries that are not allowed, with everything else wrong too.")
+    t.given("device small.img 0")
+    t.given("maps 59 2")
+    t.given("owners 7 0 255")
+    t.given("permutation 0 0 0")
+    for geometry in (
+        "0 4 4", "16 1 4", "512 4 4", "1023 4 4", "1025 4 4", "2048 4 4", "4095 4 4", "8192 4 4", "4294968320 4 4",
+        "1024 0 4", "1024 65 4", "1024 256 4", "1024 4294967300 4", "4096 0 4", "4096 257 4",
+        "1024 4 0", "1024 4 4097", "1024 4 65540", "1024 4 4294967300", "0 0 0",
+        "18446744073709551615 18446744073709551615 18446744073709551615",
+    ):
+        t.given(f"geometry {geometry}")
+        t.open(wrong[:31], "1")
+    t.given("geometry 1024 4 4")
+
+    t.say("2: the device's length.")
+    t.open(wrong[:31], "2")
+    t.given("device small.img 52223")
+    t.open(wrong[:31], "2")
+    t.given("device two-maps.img 52225")
+    t.open(wrong[:31], "2")
+    t.given(whole)
+
+    t.say("3: the key's length.")
+    for count in (0, 16, 31):
+        t.open(wrong[:count], "3")
+    t.open(key[1][:31], "3")
+    t.open(key[1] + b"\0", "3")
+
+    t.say("4: the tables' lengths, one alone and both.")
+    t.open(wrong, "4")
+    for maps in ("maps 0 2", "maps 4 2", "maps 59 2", "maps 61 2"):
+        t.given(maps)
+        t.given(good_tables[1])
+        t.open(wrong, "4")
+    for owners in ("owners 7 0 255", "owners 7 0 255 1 9", "owners 7"):
+        t.given(good_tables[0])
+        t.given(owners)
+        t.open(wrong, "4")
+    for line in good_tables:
+        t.given(line)
+
+    t.say("5: the permutation.")
+    for permutation in ("0 0 0", "2 0 3", "2 0 3 1 0", "2 0 3 1 4", "2 0 3 3", "2 2 0 1", "2 0 3 4", "2 0 3 257", "2 0 3 4097",
+                        "2 0 65539 1", "2 0 3 4294967295"):
+        t.given(f"permutation {permutation}")
+        t.open(wrong, "5")
+        t.open(key[0], "5")
+    t.given("permutation 2 0 3 1")
+
+    t.say("6: a key that opens no cell, and keys that are nearly right.")
+    t.open(wrong, "6")
+    t.open(key[0][:31] + bytes([key[0][31] ^ 1]), "6")
+    t.open(bytes([key[1][0] ^ 128]) + key[1][1:], "6")
+    t.open(image.vmk[0], "6")
+    t.open(image.vek[0], "6")
+    t.open(NO_KEY, "6")
+
+    short = small_text(0, 4)[:1023]
+    some = small_text(0, 4)
+    served = f"session 1024 4 4 1 1 {image.vek[0].hex()} {image.vek[1].hex()}"
+    t.say("The other calls, with volumes 0 and 1 open.")
+    t.open(key[1], "0 1")
+
+    t.say("20: a closed session, a geometry that is not allowed, a k above 14; with everything else wrong too.")
+    t.given("device small.img 52223")
+    t.given("maps 59 4")
+    t.given("permutation 0 0 0")
+    t.given("position 4097")
+    for session in (
+        served.replace(" 1 1 ", " 1 0 "), "session 0 0 0 0 0",
+        served.replace("1024 4 4 1 1", "1024 4 4 15 1"),
+        served.replace("1024 4 4 1 1", "1024 4 4 256 1"),
+        served.replace("1024 4 4 1 1", "1024 4 4 4294967297 1"),
+        served.replace("1024 4 4 1 1", "1024 4 4 18446744073709551615 1"),
+        served.replace("1024 4 4", "0 4 4"), served.replace("1024 4 4", "2048 4 4"), served.replace("1024 4 4", "1024 0 4"),
+        served.replace("1024 4 4", "1024 65 4"), served.replace("1024 4 4", "1024 4 0"),
+        served.replace("1024 4 4", "1024 4 4097"), served.replace("1024 4 4", "1024 4294967300 4"),
+        served.replace("1024 4 4", "1024 4 4294967300"),
+        served.replace("1024 4 4", "18446744073709551615 18446744073709551615 18446744073709551615"),
+    ):
+        t.given(session)
+        t.read(2, 16, "20", length=5)
+        t.find(0, 4, "0")
+        t.write(2, 16, short, "20 0")
+        t.close("20")
+
+    t.say("2: the device's length.")
+    t.given(served)
+    for device in ("device small.img 52223", "device two-maps.img 52225", "device small.img 0"):
+        t.given(device)
+        t.read(2, 16, "2", length=5)
+        t.find(0, 4, "0")
+        t.write(2, 16, short, "2 0")
+        t.close("2")
+    t.given(whole)
+
+    t.say("4: the tables' lengths.")
+    for maps, owners in (("59 4", "1 2 0 3"), ("61 4", "1 2 0 3"), ("4 4", "1 2 0 3"), ("0 4", "1 2 0 3"), ("60 4", "1 2 0"),
+                         ("60 4", "1 2 0 3 0")):
+        t.given(f"maps {maps}")
+        t.given(f"owners {owners}")
+        t.read(2, 16, "4", length=5)
+        t.find(0, 4, "0")
+        t.write(2, 16, short, "4 0")
+        t.close("4")
+    t.given("maps 60 -")
+    t.given("row 0 - 2 - 4")
+    t.given("row 1 - - 4294967294 0")
+    t.given("owners 2 0 1 0")
+
+    t.say("5: the length of a write's permutation, for a rewrite too.")
+    for permutation in ("2 0 3", "2 0 3 1 0"):
+        t.given(f"permutation {permutation}")
+        t.write(2, 16, short, "5 0")
+        t.write(0, 4, some, "5 0")
+        t.write(0, 0, some, "5 0")
+    t.given("permutation 2 0 3 1")
+
+    t.say("11: volumes above k.")
+    for volume in (2, 14, 15, 256, 2**32, 2**32 + 1, 2**64 - 1):
+        t.read(volume, 16, "11", length=5)
+        t.find(volume, 4, "0")
+        t.write(volume, 16, short, "11 0")
+
+    t.say("12: addresses past the end.")
+    for address in (16, 17, 20, 64, 256 + 4, 2**32, 2**32 + 4, 2**62, 2**64 - 1):
+        t.read(0, address, "12", length=5)
+        t.find(0, address, "0")
+        t.write(1, address, short, "12 0")
+
+    t.say("13: buffers and texts of a wrong length, also where the asked entry is bad.")
+    for length in (0, 5, 1023, 1025, 4096):
+        t.read(0, 12, "13", length=length)
+        t.read(0, 4, "13", length=length)
+        t.read(0, 0, "13", length=length)
+        t.write(0, 12, (some * 4)[:length], "13 0")
+        t.write(0, 4, (some * 4)[:length], "13 0")
+
+    t.say("9: the asked entry alone is judged.")
+    for volume, address in ((0, 12), (0, 15), (1, 8)):
+        t.read(volume, address, "9")
+        t.find(volume, address, "0")
+        t.write(volume, address, some, "9 0")
+    t.reads((0, 0, None), (0, 4, small_text(0, 4)), (1, 13, small_text(1, 13)))
+    t.find(0, 4, "1024 43008")
+
+    t.say("A claim's 5: a place that names no slice, met before a free one. It comes before 21: the position is past the end.")
+    for permutation, probes in (("4 1 3 0", 1), ("2 4 1 3", 2), ("2 0 4294967295 1", 3), ("2 0 2 4097", 4), ("0 257 1 1", 2)):
+        t.given(f"permutation {permutation}")
+        t.write(0, 0, some, f"5 {probes}")
+
+    t.say("22: no slice that the permutation names is free.")
+    t.given("permutation 2 0 2 0")
+    t.write(0, 0, some, "22 4")
+    t.given("owners 2 200 1 16")
+    t.given("permutation 2 0 3 1")
+    t.write(0, 0, some, "22 4")
+    t.given("owners 2 0 1 3")
+
+    t.say("21: the position past the end, or too few bytes left. A claim's carries its probes, a rewrite's none.")
+    for position in (3073, 4080, 4095, 4096, 4097, 2**32, 2**63, 2**64 - 1024, 2**64 - 1):
+        t.given(f"position {position}")
+        t.write(0, 0, some, "21 4")
+        if position > 4080:
+            t.write(0, 4, some, "21 0")
+    t.given("owners 2 0 1 0")
+    t.write(0, 0, some, "21 3")
+    t.given("permutation 1 2 3 0")
+    t.write(0, 0, some, "21 1")
+    t.given("permutation 2 0 3 1")
+
+    t.say("Close, 9: a bad entry in rows 0 to k, before 21.")
+    t.close("9")
+    t.given("row 0 - 2 - -")
+    t.close("9")
+    t.given("row 0 - 2 - 4")
+    t.given("row 1 - - - 0")
+    t.close("9")
+    t.given("row 0 - 2 - -")
+    t.say("A bad entry above k is none. 21 with 31 bytes left, and past the end.")
+    t.given("row 2 4 4294967294 2 0")
+    for position in (4065, 4096, 4097, 2**64 - 32, 2**64 - 1):
+        t.given(f"position {position}")
+        t.close("21")
+
+    t.say("Served with exactly as many bytes as are needed: a claim with 1,024, a rewrite with 16, a close with 32.")
+    t.given("position 3072")
+    t.write(0, 0, some, "0 claimed 3 3")
+    t.given("position 4080")
+    t.write(0, 1, some, "0 rewritten 3 0")
+    t.given("position 4064")
+    t.close("0")
+    t.open(key[1], "0 1")
+    t.reads((0, 0, some), (0, 1, some), (0, 2, None), (0, 4, small_text(0, 4)), (1, 13, small_text(1, 13)))
+    t.finish()
+
+
+def tables():
+    """Tables, permutations and sessions that no opening gave."""
+    image = small_image()
+    some, other = small_text(0, 4, "third"), small_text(1, 4, "third")
+    t = Transcript("tables.txt", "Calls on tables, permutations and sessions that no opening gave.")
+    t.lend("small.img", SMALL, [2, 0, 3, 1], tape("tables", 7680), 0)
+    t.open(image.key[2], "0 2")
+    t.say("An owner byte that is not 0 is held, whatever it is.")
+    t.given("owners 2 200 1 0")
+    t.given("permutation 1 3 0 2")
+    t.write(1, 4, other, "0 claimed 3 2")
+    t.say("A rewrite does not look at the owners.")
+    t.given("owners 0 0 0 0")
+    t.write(0, 4, some, "0 rewritten 2 0")
+    t.say("A claim looks at the owners alone: slice 2 is mapped, but has owner 0.")
+    t.given("permutation 2 1 0 3")
+    t.write(2, 9, other, "0 claimed 2 1")
+    t.reads((2, 9, other), (2, 8, None))
+    t.say("A permutation that names a slice more than once, or no slice behind the free place, is no refusal of a write.")
+    t.given("permutation 2 2 1 2")
+    t.write(0, 15, some, "0 claimed 1 3")
+    t.given("permutation 2 0 4 4294967295")
+    t.write(1, 0, other, "0 claimed 0 2")
+    t.say("Rewrites look at no place.")
+    t.given("permutation 4 4 4 4")
+    t.write(1, 1, some, "0 rewritten 0 0")
+
+    t.say("A session with keys above k, with another key, with a lower k.")
+    t.given("device small.img 52224")
+    t.given("maps 60 -")
+    t.given("row 0 - 2 - -")
+    t.given("row 1 - - - 0")
+    t.given("row 2 3 9 - -")
+    t.given("owners 2 0 1 3")
+    t.given("permutation 0 1 2 3")
+    all_keys = [vek.hex() for vek in image.vek]
+    t.given(f"session 1024 4 4 1 1 {words(all_keys)}")
+    t.reads((0, 4, small_text(0, 4)), (1, 13, small_text(1, 13)))
+    t.read(2, 0, "11")
+    t.given(f"session 1024 4 4 1 1 {words([all_keys[1], all_keys[0]])}")
+    t.read(0, 7, "0")
+    t.write(0, 7, some, "0 rewritten 2 0")
+    t.reads((0, 7, some))
+    t.given(f"session 1024 4 4 0 1 {words(all_keys)}")
+    t.write(0, 0, some, "0 claimed 1 2")
+    t.read(1, 13, "11")
+    t.close("0")
+
+    t.say("A close does not look for slices that are named twice; the next opening does.")
+    t.given("maps 60 -")
+    t.given("row 0 1 2 - -")
+    t.given("row 1 - - 3 0")
+    t.given("row 2 3 - - -")
+    t.given("owners 2 1 1 3")
+    t.given(f"session 1024 4 4 2 1 {words(all_keys[:3])}")
+    t.close("0")
+    t.open(image.key[1], "0 1")
+    t.open(image.key[2], "10")
+
+    t.say("All 15 volumes of a session, with no key for those above 2: their key is zeros.")
+    t.given("device small.img 52224")
+    t.given("maps 60 -")
+    t.given("owners 0 0 0 0")
+    t.given(f"session 1024 4 4 14 1 {words(all_keys[:3])}")
+    t.write(14, 7, some, "0 claimed 0 1")
+    t.write(3, 7, other, "0 claimed 1 2")
+    t.reads((14, 7, some), (3, 7, other), (14, 6, None), (2, 7, None))
+    t.close("0")
+    t.open(image.key[2], "0 2")
+    t.finish()
+
+
+def twomaps():
+    """Two map blocks for each volume."""
+    g = Geometry(1024, 1, 257)
+    image = Image("two-maps.img", g)
+    free = [7, 130, 254]
+    fixed = {(0, 0): 0, (0, 250): 251, (0, 252): 256, (0, 256): 252, (1, 1): 1, (1, 249): 253, (1, 253): 255}
+    slices = image.noise.shuffled(psi for psi in range(g.P) if psi not in free and psi not in fixed.values())
+    rows = [[MARK] * g.P, [MARK] * g.P]
+    for volume in (0, 1):
+        for sigma in range(volume, g.P, 2):
+            if volume == 0 or sigma not in (5, 251, 255):
+                rows[volume][sigma] = fixed[volume, sigma] if (volume, sigma) in fixed else slices.pop()
+    assert not slices
+    image.put_volume(0, rows[0], past=range(g.P, 2 * g.entries))
+    image.put_volume(1, rows[1], past=range(0, 2 * g.entries - g.P), ivs=[None, FF16])
+    first = {place: text(f"two-maps, block {place[1]} of volume {place[0]}", g.B) for place in fixed}
+    for (volume, sigma), psi in fixed.items():
+        image.put_block(volume, psi, 0, first[volume, sigma], FF16 if sigma in (0, 253) else None)
+    FILES["two-maps.img"] = bytes(image.device)
+    key = image.key
+
+    # The free slices stand at places 99, 255 and 256.
+    permutation = image.noise.shuffled(psi for psi in range(g.P) if psi not in free)
+    permutation = permutation[:99] + free[:1] + permutation[99:] + free[1:]
+    written = {place: text(f"two-maps, block {place[1]} of volume {place[0]}, written", g.B) for place in
+               ((1, 251), (1, 255), (0, 253), (0, 256), (0, 1))}
+    t = Transcript("two-maps.txt", "Two map blocks for each volume: entries 0 to 251 in the first, 252 to 256 in the second.")
+    tape_words = tape("twomaps", 3200, at_3=FF16, at_3107=FF16)
+    t.lend("two-maps.img", g, permutation, tape_words, 3)
+    t.open(key[0], "0 0")
+    t.reads(*((0, sigma, first[0, sigma]) for sigma in (0, 250, 252, 256)), (0, 251, None), (0, 253, None))
+    t.open(key[1], "0 1")
+    t.reads(*((volume, sigma, data) for (volume, sigma), data in first.items()))
+    t.reads((0, 1, None), (1, 0, None), (1, 252, None), (1, 251, None), (1, 254, None))
+    t.read(0, 257, "12")
+    t.read(0, 2, "0")
+    t.find(0, 0, f"1024 {1024 * (46 + 1)}")
+    t.find(0, 252, f"1024 {1024 * (46 + 2 * 256 + 1)}")
+    t.find(1, 253, f"1024 {1024 * (46 + 2 * 255 + 1)}")
+    t.find(1, 252, "0")
+    t.say("Claims in the first map block and in the second, then none is free.")
+    t.write(1, 251, written[1, 251], "0 claimed 7 100")
+    t.write(1, 255, written[1, 255], "0 claimed 130 256")
+    t.write(0, 253, written[0, 253], "0 claimed 254 257")
+    t.write(0, 1, written[0, 1], "22 257")
+    t.write(0, 256, written[0, 256], "0 rewritten 252 0")
+    t.reads(*((place[0], place[1], written[place]) for place in ((1, 251), (1, 255), (0, 253), (0, 256))))
+    t.say("A close needs 64 bytes: with 63 it is refused.")
+    position = t.lent.position
+    assert position == 3 + 3 * 1024 + 16
+    name, offset, length = tape_words.split(" ")
+    t.given(f"tape {name} {offset} {position + 63}")
+    t.close("21")
+    t.given(f"tape {tape_words}")
+    t.close("0")
+    t.say("The next openings.")
+    t.given(f"permutation {words(range(g.P - 1, -1, -1))}")
+    t.open(key[1], "0 1")
+    t.reads(*((place[0], place[1], written[place]) for place in ((1, 251), (1, 255), (0, 253), (0, 256))))
+    t.reads((0, 252, first[0, 252]), (1, 253, first[1, 253]), (1, 5, None))
+    t.open(key[0], "0 0")
+    t.reads((0, 253, written[0, 253]), (0, 252, first[0, 252]))
+    t.finish()
+
+
+def fifteen():
+    """Blocks of 4,096 bytes and all 15 volumes."""
+    g = Geometry(4096, 2, 4)
+    image = Image("fifteen.img", g)
+    rows = {14: [3, MARK, MARK, MARK], 9: [MARK, MARK, 1, MARK], 0: [MARK, MARK, MARK, 0]}
+    map_ivs = {14: [FF16], 9: [FF16[:15] + b"\x9c"], 0: [Noise("iv 4").take(12) + FF16[:4]]}
+    for i in range(VOLUMES):
+        image.put_volume(i, rows.get(i, [MARK] * 4), ivs=map_ivs.get(i, ()))
+    ivs = {
+        (14, 0): FF16,
+        (14, 1): Noise("iv 5").take(13) + FF16[:3],
+        (9, 4): Noise("iv 6").take(8) + FF16[:8],
+        (9, 5): Noise("iv 7").take(12) + FF16[:4],
+        (0, 6): None,
+        (0, 7): FF16[:15] + b"\x80",
+    }
+    first = {place: text(f"fifteen, block {place[1]} of volume {place[0]}", g.B) for place in ivs}
+    for (volume, address), iv in ivs.items():
+        image.put_block(volume, rows[volume][address // 2], address % 2, first[volume, address], iv)
+    FILES["fifteen.img"] = bytes(image.device)
+
+    t = Transcript("fifteen.txt", "Blocks of 4,096 bytes, all 15 volumes, counters that carry and that wrap.")
+    # At 1 the IV block of a claim, its IVs at 1 and 17; at 4097 the IV of a rewrite; at 4113 those of a close.
+    tape_words = tape("fifteen", 4096 + 384, at_1=FF16[:15] + b"\x01", at_17=FF16, at_4101=FF16[:12], at_4113=FF16)
+    t.lend("fifteen.img", g, [3, 1, 0, 2], tape_words, 1)
+    t.say("Key i opens volumes 0 to i.")
+    for i in range(VOLUMES):
+        t.open(image.key[i], f"0 {i}")
+        if i < 14:
+            t.read(i + 1, 0, "11")
+    t.reads(*((volume, address, data) for (volume, address), data in first.items()))
+    t.reads((14, 2, None), (8, 4, None), (10, 0, None), (0, 0, None))
+    t.read(14, 8, "12")
+    t.read(15, 0, "11")
+    t.find(14, 0, f"4096 {4096 * (31 + 3 * 3 + 1)}")
+    t.find(9, 5, f"4096 {4096 * (31 + 1 * 3 + 2)}")
+    t.find(0, 7, f"4096 {4096 * (31 + 2)}")
+    t.find(8, 5, "0")
+    t.say("A claim and a rewrite.")
+    claimed, rewritten = text("fifteen, block 1 of volume 3", g.B), text("fifteen, block 0 of volume 14, written", g.B)
+    t.write(3, 1, claimed, "0 claimed 2 4")
+    t.write(14, 0, rewritten, "0 rewritten 3 0")
+    t.write(13, 0, claimed, "22 4")
+    t.reads((3, 0, None), (3, 1, claimed), (14, 0, rewritten), (14, 1, first[14, 1]))
+    t.say("A close needs 240 bytes: with 239 it is refused.")
+    name, offset, length = tape_words.split(" ")
+    assert t.lent.position == 4113
+    t.given(f"tape {name} {offset} {4113 + 239}")
+    t.close("21")
+    t.given(f"tape {name} {offset} {4113 + 240}")
+    t.close("0")
+    t.image("fifteen-after.img")
+    t.say("The next openings.")
+    for i in (14, 13, 3, 2, 0):
+        t.open(image.key[i], f"0 {i}")
+        t.reads((0, 6, first[0, 6]), (0, 7, first[0, 7]))
+        if i >= 3:
+            t.reads((3, 1, claimed))
+        if i >= 9:
+            t.reads((9, 4, first[9, 4]))
+        if i >= 14:
+            t.reads((14, 0, rewritten), (14, 1, first[14, 1]))
+    t.finish()
+
+
+def widest():
+    """As many data blocks in a slice as there may be: the IV block is IVs to its end."""
+    g = Geometry(1024, 64, 1)
+    image = Image("widest.img", g)
+    image.put_volume(0, [MARK])
+    image.put_volume(1, [0])
+    first = {j: text(f"widest, block {j} of volume 1", g.B) for j in (0, 1, 31, 62, 63)}
+    for j in range(64):
+        image.put_block(1, 0, j, first.get(j, bytes(g.B)))
+    FILES["widest.img"] = bytes(image.device)
+
+    t = Transcript("widest.txt", "One slice of 64 data blocks, whose IVs fill the IV block.")
+    # At 0 the IV of a rewrite, at 16 the IV block of a claim.
+    t.lend("widest.img", g, [0], tape("widest", 1056, at_0=FF16, at_1024=FF16), 0)
+    t.open(image.key[1], "0 1")
+    t.reads(*((1, j, data) for j, data in first.items()), (1, 2, None), (1, 32, None), (1, 61, None), (0, 0, None))
+    t.read(1, 64, "12")
+    t.find(1, 0, f"1024 {1024 * 32}")
+    t.find(1, 63, f"1024 {1024 * 95}")
+    rewritten, claimed = text("widest, block 63 of volume 1, written", g.B), text("widest, block 63 of volume 0", g.B)
+    t.write(0, 63, claimed, "22 1")
+    t.write(1, 63, rewritten, "0 rewritten 0 0")
+    t.reads((1, 62, first[62]), (1, 63, rewritten))
+    t.say("Key 0 knows nothing of volume 1, and a claim takes its slice.")
+    t.open(image.key[0], "0 0")
+    t.reads((0, 0, None), (0, 63, None))
+    t.write(0, 63, claimed, "0 claimed 0 1")
+    t.reads((0, 0, None), (0, 1, None), (0, 62, None), (0, 63, claimed))
+    t.close("0")
+    t.open(image.key[0], "0 0")
+    t.reads((0, 0, None), (0, 62, None), (0, 63, claimed))
+    t.open(image.key[1], "10")
+    t.finish()
+
+
+def damaged():
+    """Images that are refused by 6 to 10."""
+    g = SMALL
+    t = Transcript("damaged.txt", "Openings that are refused by what stands on the device.")
+
+    # 6
+    image = small_image()
+    key = image.key
+    for i in (0, 1, 2):
+        put(image.device, g.cell(3 + i), bytes(image.device[g.cell(i) : g.cell(i) + CELL]))
+    image.flip(g.cell(0) + CELL - 1, 1)
+    image.flip(g.cell(1), 128)
+    image.flip(g.cell(2) + 12 + 31, 1)
+    image.put_cell(6, key=key[0], associated=b"")
+    image.put_cell(7, key=key[0], associated=bytes([16 + 7]))
+    image.put_cell(8, key=key[0], associated=number(8))
+    cell = image.sealed_cell(9, key=key[0])
+    put(image.device, g.cell(9), cell[:12] + cell[44:] + cell[12:44])
+    put(image.device, g.cell(10), cell[12:] + cell[:12])
+    FILES["no-cell.img"] = bytes(image.device)
+    t.say("Cells 0 to 2 have one bit changed, in the last byte of the tag, the first of the IV, the last of the ciphertext.")
+    t.lend("no-cell.img", g, [2, 0, 3, 1])
+    for i in range(VOLUMES):
+        t.open(key[i], "6")
+    t.say("With the bit in place again.")
+    for i in (0, 1, 2):
+        t.given(f"bytes {g.cell(i)} small.img {g.cell(i)} {CELL}")
+        t.open(key[i], f"0 {i}")
+
+    # 7
+    image = small_image()
+    image.flip(g.header(1) + HEADER - 1, 1)
+    image.put_header(0, S=5)
+    FILES["header-tag.img"] = bytes(image.device)
+    t.say("The tag of header 1 is wrong in its last bit, and header 0 holds another S.")
+    t.lend("header-tag.img", g, [2, 0, 3, 1])
+    t.open(key[2], "7")
+    t.open(key[1], "7")
+    t.open(key[0], "8")
+    t.say("Header 1 right again: the way down ends at header 0.")
+    t.given(f"bytes {g.header(1)} small.img {g.header(1)} {HEADER}")
+    t.open(key[2], "8")
+    t.open(key[1], "8")
+    t.say("Header 1 sealed with the associated data 1, with none, with 17 in four bytes; for volume 2; with another S besides.")
+    for sealed in (
+        image.sealed_header(1, associated=bytes([1])),
+        image.sealed_header(1, associated=b""),
+        image.sealed_header(1, associated=number(17)),
+        image.sealed_header(1, associated=bytes([18])),
+        image.sealed_header(1, associated=bytes([1]), S=5),
+    ):
+        t.given_bytes(g.header(1), sealed)
+        t.open(key[2], "7")
+        t.open(key[1], "7")
+    t.say("The tag before the ciphertext; the first bit of the IV and of the ciphertext; the last header's tag.")
+    sealed = image.sealed_header(1)
+    t.given_bytes(g.header(1), sealed[:12] + sealed[84:] + sealed[12:84])
+    t.open(key[2], "7")
+    for place in (0, 12, 83, 84):
+        t.given_bytes(g.header(1), sealed[:place] + bytes([sealed[place] ^ 128]) + sealed[place + 1 :])
+        t.open(key[1], "7")
+    t.given("device small.img 52224")
+    t.given_bytes(g.header(0) + HEADER - 1, bytes([small_image().device[g.header(0) + HEADER - 1] ^ 1]))
+    for i in (0, 1, 2):
+        t.open(key[i], "7")
+
+    # 8
+    image = small_image()
+    image.put_header(1, S=5)
+    image.flip(g.header(0) + 84, 128)
+    FILES["header-geometry.img"] = bytes(image.device)
+    t.say("Header 1 holds S 5, and the tag of header 0 is wrong: the 8 comes first on the way down.")
+    t.lend("header-geometry.img", g, [2, 0, 3, 1])
+    t.open(key[2], "8")
+    t.open(key[1], "8")
+    t.open(key[0], "7")
+    t.say("Other numbers in header 1: P too large by one, 0, the largest; S 0, 3, 4 in another byte.")
+    for numbers in ({"P": 5}, {"P": 0}, {"P": MARK}, {"P": 4 << 24}, {"P": (1 << 16) + 4}, {"S": 0}, {"S": 3}, {"S": 4 << 24},
+                    {"S": (1 << 16) + 4}, {"P": 5, "S": 5}):
+        t.given_bytes(g.header(1), image.sealed_header(1, **numbers))
+        t.open(key[2], "8")
+        t.open(key[1], "8")
+    t.say("The right numbers: now header 0 is reached, and with its tag right the opening is served.")
+    t.given_bytes(g.header(1), image.sealed_header(1))
+    t.open(key[2], "7")
+    t.given(f"bytes {g.header(0)} small.img {g.header(0)} {HEADER}")
+    t.open(key[2], "0 2")
+
+    # 9
+    image = small_image()
+    image.put_map(1, [MARK, MARK, 4, 2])
+    FILES["bad-entry.img"] = bytes(image.device)
+    t.say("Entry 2 of volume 1 is 4, which is P; entry 3 names the slice of volume 0.")
+    t.lend("bad-entry.img", g, [2, 0, 3, 1])
+    t.open(key[1], "9")
+    t.open(key[2], "9")
+    t.open(key[0], "0 0")
+    t.say("Other bad entries, each at another place.")
+    for bad in ([MARK - 1, MARK, MARK, MARK], [MARK, (1 << 16) + 1, MARK, MARK], [MARK, MARK, 1 << 24, MARK],
+                [MARK, MARK, MARK, 1 << 31], [4097, 2, 2, 2], [MARK >> 1, 2, 2, 2], [256, 2, 2, 2]):
+        t.given_bytes(g.map_block(1, 0), image.enciphered_map(1, bad))
+        t.open(key[1], "9")
+        t.open(key[2], "9")
+    t.say("Volume by volume: the last entry of volume 0 is bad, the first of volume 1 a slice named twice.")
+    t.given_bytes(g.map_block(0, 0), image.enciphered_map(0, [MARK, 2, MARK, 4]))
+    t.given_bytes(g.map_block(1, 0), image.enciphered_map(1, [2, MARK, MARK, 0]))
+    t.open(key[1], "9")
+    t.open(key[0], "9")
+    t.say("An entry past the last is ignored, whatever it is. The mark is all FF and nothing less.")
+    t.given_bytes(g.map_block(0, 0), image.enciphered_map(0, [MARK, 2, MARK, MARK, 4, 2]))
+    t.given_bytes(g.map_block(1, 0), image.enciphered_map(1, [MARK, MARK, MARK, 0, 0, MARK - 1]))
+    t.open(key[1], "0 1")
+
+    # 10
+    image = small_image()
+    image.put_map(2, [3, 2, 4, MARK])
+    FILES["slice-twice.img"] = bytes(image.device)
+    t.say("Entry 1 of volume 2 names the slice of volume 0; entry 2 is 4.")
+    t.lend("slice-twice.img", g, [2, 0, 3, 1])
+    t.open(key[2], "10")
+    t.open(key[1], "0 1")
+    t.open(key[0], "0 0")
+    t.say("Twice inside one volume; before a bad entry; with slice 0.")
+    for bad in ([2, 2, MARK, MARK], [1, 3, MARK, 1], [2, 2, 4, 4], [0, MARK, MARK, 0]):
+        t.given_bytes(g.map_block(0, 0), image.enciphered_map(0, bad))
+        for i in (0, 1, 2):
+            t.open(key[i], "10")
+    t.finish()
+
+
+def twocells():
+    """One key for two cells."""
+    image = small_image()
+    key = image.key
+    g = SMALL
+    both = Noise("two cells").take(32)
+    for i in (1, 2, 14):
+        image.put_cell(i, key=both)
+    FILES["two-cells.img"] = bytes(image.device)
+    t = Transcript("two-cells.txt", "One key opens cells 1, 2 and 14: the lowest is taken.")
+    t.lend("two-cells.img", g, [2, 0, 3, 1])
+    t.open(both, "0 1")
+    t.reads((0, 4, small_text(0, 4)), (1, 13, small_text(1, 13)))
+    t.read(2, 0, "11")
+    t.say("Keys 1 and 2 open no cell here; key 0 opens cell 0.")
+    t.open(key[1], "6")
+    t.open(key[2], "6")
+    t.open(key[0], "0 0")
+    t.say("The cell decides, not what follows from it: with header 1 unreadable the opening is refused.")
+    t.given_bytes(g.header(1) + 99, bytes([image.device[g.header(1) + 99] ^ 1]))
+    t.open(both, "7")
+    t.say("With cell 1 unreadable, cell 2 is the lowest. Its way down meets header 1 too.")
+    t.given_bytes(g.cell(1) + 59, bytes([image.device[g.cell(1) + 59] ^ 1]))
+    t.open(both, "7")
+    t.given(f"bytes {g.header(1)} small.img {g.header(1)} {HEADER}")
+    t.open(both, "0 2")
+    t.reads((0, 4, small_text(0, 4)), (1, 13, small_text(1, 13)), (2, 0, small_text(2, 0)))
+    t.say("With cell 2 unreadable too, cell 14 is taken, and no header 14 stands on the device.")
+    t.given_bytes(g.cell(2), bytes([image.device[g.cell(2)] ^ 1]))
+    t.open(both, "7")
+    t.finish()
+
+
+def ignored():
+    """Other bytes wherever bytes are ignored."""
+    image = small_image()
+    g = SMALL
+    t = Transcript("ignored.txt", "small.img with other bytes wherever key 1 has nothing to read: every answer is the same.")
+    t.lend("small.img", g, [2, 0, 3, 1], tape("ignored", 1280), 0)
+    places = [(0, 16, "the salt"), (g.cell(2), g.B - g.cell(2), "cells above 1 and the rest of the master block")]
+    for i in (0, 1):
+        places.append((g.header(i) + HEADER, g.B - HEADER, f"the rest of header {i}'s first block"))
+        places.append((g.map_block(i, 0) + 16 + 4 * g.P, g.B - 16 - 4 * g.P, f"entries of volume {i} past the last"))
+    places.append((g.header(2), g.slice(0) - g.header(2), "headers above 1"))
+    for psi in (0, 2):
+        places.append((g.slice(psi) + 16 * g.S, g.B - 16 * g.S, f"the filler of slice {psi}"))
+    for psi in (1, 3):
+        places.append((g.slice(psi), g.B * (1 + g.S), f"slice {psi}, free or held by volume 2"))
+    for at, length, what in places:
+        t.say(what[0].upper() + what[1:] + ".")
+        t.given(f"bytes {at} two-maps.img {at + 4096} {length}")
+    t.say("The session.")
+    t.open(image.key[1], "0 1")
+    t.reads(*small_blocks(0, 1))
+    t.write(0, 5, small_text(0, 5), "0 rewritten 2 0")
+    t.write(1, 8, small_text(1, 8), "0 claimed 3 3")
+    t.reads((0, 4, small_text(0, 4)), (0, 5, small_text(0, 5)), (1, 8, small_text(1, 8)), (1, 9, None))
+    t.close("0")
+    t.open(image.key[1], "0 1")
+    t.reads((0, 5, small_text(0, 5)), (1, 8, small_text(1, 8)), (1, 13, small_text(1, 13)))
+    t.finish()
+
+
+def lengths():
+    """The device's length for many geometries."""
+    twomaps = Image("two-maps.img", Geometry(1024, 1, 257))
+    t = Transcript(
+        "lengths.txt",
+        "The device's length for many geometries. The key has 31 bytes: an opening is refused by 3 where the length is right,",
+        "and by 2 where it is not.",
+    )
+    t.lend("small.img", SMALL, [2, 0, 3, 1])
+    short = twomaps.key[0][:31]
+    for B, S, P, m in ((1024, 1, 1, 1), (1024, 4, 4, 1), (1024, 64, 1, 1), (1024, 1, 252, 1), (1024, 1, 253, 2),
+                       (1024, 1, 504, 2), (1024, 1, 505, 3), (1024, 1, 4096, 17), (4096, 1, 1, 1), (4096, 256, 1, 1),
+                       (4096, 1, 253, 1), (4096, 1, 1020, 1), (4096, 1, 1021, 2)):
+        g = Geometry(B, S, P)
+        assert g.m == m and g.length == B * (1 + 15 * (1 + m) + P * (S + 1))
+        t.say(f"m {m}, H {g.H}, {g.length} bytes.")
+        t.given(f"geometry {B} {S} {P}")
+        for length, answer in ((g.length - 1, "2"), (g.length + 1, "2"), (g.length, "3")):
+            t.given(f"zeros {length}")
+            t.open(short, answer)
+
+    g = Geometry(4096, 256, 4080)
+    assert g.length == 2**32 + 245760
+    t.say("A device of 4,295,213,056 bytes, which is 2^32 and 245,760: a length worked out in 32 bits would be right here.")
+    t.given(f"geometry {words(g)}")
+    t.given("device two-maps.img 245760")
+    t.open(short, "2")
+
+    t.say("The first part of two-maps.img with one map block, where header 0 begins at the same place: its P is 257, not 252.")
+    g = Geometry(1024, 1, 252)
+    t.given(f"geometry {words(g)}")
+    t.given(f"device two-maps.img {g.length}")
+    t.given(f"maps {15 * g.P} 2")
+    t.given(f"owners {words([9] * g.P)}")
+    t.given(f"permutation {words(range(g.P))}")
+    t.open(twomaps.key[0], "8")
+    t.say("The same with S 64 and P 1.")
+    g = Geometry(1024, 64, 1)
+    t.given(f"geometry {words(g)}")
+    t.given(f"device two-maps.img {g.length}")
+    t.given("maps 15 2")
+    t.given("owners 9")
+    t.given("permutation 0")
+    t.open(twomaps.key[0], "8")
+    t.finish()
+
+
+def make():
+    check_layout()
+    FILES["texts.bin"] = bytes(4096)  # zeros first: what an unmapped block reads as
+    small()
+    twomaps()
+    fifteen()
+    widest()
+    above()
+    refusals()
+    tables()
+    damaged()
+    twocells()
+    ignored()
+    lengths()
+
+
+def main():
+    if sys.argv[1:] not in ([], ["--check"]):
+        sys.exit("usage: make.py [--check]")
+    make()
+    folder = os.path.dirname(os.path.abspath(__file__))
+    wrong = []
+    for name in sorted(FILES):
+        path = os.path.join(folder, name)
+        if sys.argv[1:]:
+            if not os.path.exists(path) or open(path, "rb").read() != FILES[name]:
+                wrong.append(name)
+        else:
+            with open(path, "wb") as file:
+                file.write(FILES[name])
+    others = [name for name in sorted(os.listdir(folder)) if name.endswith((".img", ".txt", ".bin")) and name not in FILES]
+    total = sum(len(data) for data in FILES.values())
+    print(f"{len(FILES)} files, {total} bytes")
+    if wrong or others:
+        sys.exit(f"not as made: {words(wrong)}; not made here: {words(others)}")
+
+
+if __name__ == "__main__":
+    main()
