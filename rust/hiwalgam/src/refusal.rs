@@ -1,0 +1,124 @@
+//! What a call can be refused for.
+
+use std::error::Error;
+use std::fmt;
+
+use crate::sys;
+
+/// Why a call was refused. The number of each is the one that the C functions answer.
+#[derive(Clone, Copy, PartialEq, Eq, Hash, Debug)]
+#[repr(u8)]
+pub enum Refusal {
+    /// The size of blocks, the blocks in a slice or the number of slices is not allowed.
+    BadGeometry = 1,
+    /// The device is not as long as the geometry says.
+    DeviceLength = 2,
+    /// The key is not 32 bytes.
+    KeyLength = 3,
+    /// The map table has not 15 entries for each slice, or the owner table not one.
+    TableLength = 4,
+    /// The permutation does not name each slice once.
+    BadPermutation = 5,
+    /// The key opens no key cell.
+    NoCell = 6,
+    /// The tag of a header that is needed is wrong.
+    HeaderTag = 7,
+    /// A header was made for another geometry.
+    HeaderGeometry = 8,
+    /// A map entry is neither a slice nor the mark of an unmapped one.
+    BadEntry = 9,
+    /// A slice is mapped twice.
+    SliceTwice = 10,
+    /// The volume is above the opened one.
+    VolumeAbove = 11,
+    /// The block is past the end of the volume.
+    AddressAbove = 12,
+    /// A buffer, text, IV, tag, associated data or struct is not as long as it has to be.
+    WrongLength = 13,
+    /// A line of the program `slicewalk` is malformed; no function answers it.
+    MalformedLine = 14,
+    /// The tag is wrong.
+    TagDiffers = 15,
+    /// The session is closed, or holds numbers that are not allowed.
+    NotOpen = 20,
+    /// The tape has not as many bytes left as the call needs.
+    TapeShort = 21,
+    /// No slice is free for a claim.
+    NoFreeSlice = 22,
+}
+
+impl Refusal {
+    /// All refusals, in the order of their numbers.
+    pub const ALL: [Refusal; 18] = [
+        Refusal::BadGeometry,
+        Refusal::DeviceLength,
+        Refusal::KeyLength,
+        Refusal::TableLength,
+        Refusal::BadPermutation,
+        Refusal::NoCell,
+        Refusal::HeaderTag,
+        Refusal::HeaderGeometry,
+        Refusal::BadEntry,
+        Refusal::SliceTwice,
+        Refusal::VolumeAbove,
+        Refusal::AddressAbove,
+        Refusal::WrongLength,
+        Refusal::MalformedLine,
+        Refusal::TagDiffers,
+        Refusal::NotOpen,
+        Refusal::TapeShort,
+        Refusal::NoFreeSlice,
+    ];
+
+    /// The number that the C functions answer.
+    pub const fn number(self) -> u8 {
+        self as u8
+    }
+
+    /// The refusal with a number, or `None` where no refusal has it.
+    pub fn from_number(number: u8) -> Option<Refusal> {
+        let mut all = Refusal::ALL.into_iter();
+        all.find(|refusal| refusal.number() == number)
+    }
+
+    fn reason(self) -> &'static str {
+        match self {
+            Refusal::BadGeometry => "the geometry is not allowed",
+            Refusal::DeviceLength => "the device is not as long as the geometry says",
+            Refusal::KeyLength => "the key is not 32 bytes",
+            Refusal::TableLength => "the map table or the owner table has a wrong length",
+            Refusal::BadPermutation => "the permutation does not name each slice once",
+            Refusal::NoCell => "the key opens no key cell",
+            Refusal::HeaderTag => "the tag of a header is wrong",
+            Refusal::HeaderGeometry => "a header was made for another geometry",
+            Refusal::BadEntry => "a map entry is neither a slice nor unmapped",
+            Refusal::SliceTwice => "a slice is mapped twice",
+            Refusal::VolumeAbove => "the volume is above the opened one",
+            Refusal::AddressAbove => "the block is past the end of the volume",
+            Refusal::WrongLength => "a buffer or a struct has a wrong length",
+            Refusal::MalformedLine => "the line is malformed",
+            Refusal::TagDiffers => "the tag is wrong",
+            Refusal::NotOpen => "the session is not open",
+            Refusal::TapeShort => "the tape has too few bytes left",
+            Refusal::NoFreeSlice => "no slice is free",
+        }
+    }
+}
+
+impl fmt::Display for Refusal {
+    fn fmt(&self, f: &mut fmt::Formatter<'_>) -> fmt::Result {
+        write!(f, "{} (refusal {})", self.reason(), self.number())
+    }
+}
+
+impl Error for Refusal {}
+
+/// The result of a call by the number that it answered. A number that no refusal has comes from
+/// another library than the one that this crate was written for, which is no case to go on from.
+pub(crate) fn answered(number: u8) -> Result<(), Refusal> {
+    match Refusal::from_number(number) {
+        Some(refusal) => Err(refusal),
+        None if number == sys::SERVED => Ok(()),
+        None => panic!("libhiwalgam.a answered {number}, which is no refusal of this crate"),
+    }
+}

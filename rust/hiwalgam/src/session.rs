@@ -1,0 +1,210 @@
+//! A session, and the calls of the engine.
+
+use std::mem::size_of;
+
+use crate::refusal::answered;
+use crate::sys;
+use crate::{Block, Geometry, Refusal, Tables, Tape, WriteRefused, Written};
+
+// In each call every pointer and the length after it come from one slice or struct, which is
+// borrowed until the call returns. What the call writes is borrowed mutably, so that it overlaps
+// nothing else. That is all that the C functions ask for; they test every number themselves.
+
+/// An open device: the volume that a key opened, with all below it.
+///
+/// The device, the tables and the tape are lent to each call. From the opening to the close nothing
+/// but these calls may alter them, and the tables are those of the opening. A session that is
+/// dropped without a close loses the slices that it claimed.
+#[derive(PartialEq, Eq, Debug)]
+#[must_use = "what a session claims is lost without a close"]
+pub struct Session(sys::Session);
+
+impl Session {
+    /// Opens a device: the lowest volume whose key cell `key` opens, and all below it. The
+    /// permutation names each slice once; claims take the first free one in its order.
+    ///
+    /// Refused by 1, 2, 3, 4, 5 (the tables stay), 6, 7, 8, 9, 10 (they become empty).
+    pub fn open<M, O>(
+        device: &[u8],
+        geometry: Geometry,
+        key: &[u8],
+        tables: &mut Tables<M, O>,
+        permutation: &[u32],
+    ) -> Result<Session, Refusal>
+    where
+        M: AsMut<[u32]>,
+        O: AsMut<[u8]>,
+    {
+        let (maps, owners) = (tables.maps.as_mut(), tables.owners.as_mut());
+        let mut session = sys::Session::CLOSED;
+        // SAFETY: each pointer goes with the length of what it was taken from.
+        #[rustfmt::skip]
+        let number = unsafe {
+            sys::hiwalgam_open(
+                device.as_ptr(), device.len(),
+                &geometry, size_of::<sys::Geometry>(),
+                key.as_ptr(), key.len(),
+                maps.as_mut_ptr(), maps.len(),
+                owners.as_mut_ptr(), owners.len(),
+                permutation.as_ptr(), permutation.len(),
+                &mut session, size_of::<sys::Session>(),
+            )
+        };
+        answered(number)?;
+        Ok(Session(session))
+    }
+
+    /// Reads a block into `buffer`, which has B bytes. A block that was never written is zeros.
+    ///
+    /// Refused by 20, 2, 4, 11, 12, 13, 9; the buffer stays then.
+    pub fn read<M, O>(
+        &self,
+        device: &[u8],
+        tables: &Tables<M, O>,
+        block: Block,
+        buffer: &mut [u8],
+    ) -> Result<(), Refusal>
+    where
+        M: AsRef<[u32]>,
+        O: AsRef<[u8]>,
+    {
+        let (maps, owners) = (tables.maps.as_ref(), tables.owners.as_ref());
+        // SAFETY: each pointer goes with the length of what it was taken from.
+        #[rustfmt::skip]
+        let number = unsafe {
+            sys::hiwalgam_read(
+                device.as_ptr(), device.len(),
+                maps.as_ptr(), maps.len(),
+                owners.as_ptr(), owners.len(),
+                &self.0, size_of::<sys::Session>(),
+                block.volume, block.address,
+                buffer.as_mut_ptr(), buffer.len(),
+            )
+        };
+        answered(number)
+    }
+
+    /// Finds the ciphertext of a block and gives its length, B. It is copied to the start of `out`
+    /// where that has room for it; otherwise `out` stays. `None` where the block has no slice, or
+    /// where a read of it would be refused.
+    pub fn find<M, O>(
+        &self,
+        device: &[u8],
+        tables: &Tables<M, O>,
+        block: Block,
+        out: &mut [u8],
+    ) -> Option<usize>
+    where
+        M: AsRef<[u32]>,
+        O: AsRef<[u8]>,
+    {
+        let (maps, owners) = (tables.maps.as_ref(), tables.owners.as_ref());
+        // SAFETY: each pointer goes with the length of what it was taken from.
+        #[rustfmt::skip]
+        let length = unsafe {
+            sys::hiwalgam_find(
+                device.as_ptr(), device.len(),
+                maps.as_ptr(), maps.len(),
+                owners.as_ptr(), owners.len(),
+                &self.0, size_of::<sys::Session>(),
+                block.volume, block.address,
+                out.as_mut_ptr(), out.len(),
+            )
+        };
+        (length > 0).then_some(length)
+    }
+
+    /// Writes a block: `text` has B bytes. Where the block's logical slice has a slice, the block is
+    /// rewritten there and takes 16 bytes of the tape. Otherwise the first free slice in the order
+    /// of the permutation is claimed, and takes B bytes. A claim is in the device's maps only after
+    /// a close.
+    ///
+    /// Refused by 20, 2, 4, 5 (length), 11, 12, 13, 9; a claim by 5 (a place that names no slice) or
+    /// 22; both by 21. Nothing changes then.
+    pub fn write<M, O>(
+        &mut self,
+        device: &mut [u8],
+        tables: &mut Tables<M, O>,
+        permutation: &[u32],
+        tape: &mut Tape<'_>,
+        block: Block,
+        text: &[u8],
+    ) -> Result<Written, WriteRefused>
+    where
+        M: AsMut<[u32]>,
+        O: AsMut<[u8]>,
+    {
+        let (maps, owners) = (tables.maps.as_mut(), tables.owners.as_mut());
+        let mut written = sys::Written::default();
+        // SAFETY: each pointer goes with the length of what it was taken from.
+        #[rustfmt::skip]
+        let number = unsafe {
+            sys::hiwalgam_write(
+                device.as_mut_ptr(), device.len(),
+                maps.as_mut_ptr(), maps.len(),
+                owners.as_mut_ptr(), owners.len(),
+                permutation.as_ptr(), permutation.len(),
+                tape.bytes.as_ptr(), tape.bytes.len(), &mut tape.position,
+                &mut self.0, size_of::<sys::Session>(),
+                block.volume, block.address,
+                text.as_ptr(), text.len(),
+                &mut written, size_of::<sys::Written>(),
+            )
+        };
+        Written::answered(number, written)
+    }
+
+    /// Closes the session: the maps of the open volumes go to the device, with 16 bytes of the tape
+    /// for each map block. The tables are empty afterwards, and the session is closed, without keys.
+    ///
+    /// Refused by 20, 2, 4, 9, 21. Nothing changes then, and the close can be tried again.
+    pub fn close<M, O>(
+        &mut self,
+        device: &mut [u8],
+        tables: &mut Tables<M, O>,
+        tape: &mut Tape<'_>,
+    ) -> Result<(), Refusal>
+    where
+        M: AsMut<[u32]>,
+        O: AsMut<[u8]>,
+    {
+        let (maps, owners) = (tables.maps.as_mut(), tables.owners.as_mut());
+        // SAFETY: each pointer goes with the length of what it was taken from.
+        #[rustfmt::skip]
+        let number = unsafe {
+            sys::hiwalgam_close(
+                device.as_mut_ptr(), device.len(),
+                maps.as_mut_ptr(), maps.len(),
+                owners.as_mut_ptr(), owners.len(),
+                tape.bytes.as_ptr(), tape.bytes.len(), &mut tape.position,
+                &mut self.0, size_of::<sys::Session>(),
+            )
+        };
+        answered(number)
+    }
+
+    /// The geometry of the device.
+    pub fn geometry(&self) -> Geometry {
+        self.0.geometry
+    }
+
+    /// The opened volume: it and all below it are open.
+    pub fn volume(&self) -> u64 {
+        self.0.volume
+    }
+
+    /// Whether the session is open: it was not closed.
+    pub fn is_open(&self) -> bool {
+        self.0.open == 1
+    }
+
+    /// A session from a record, which may hold anything: each call tests it.
+    pub fn from_record(record: sys::Session) -> Session {
+        Session(record)
+    }
+
+    /// The session as C has it, with the keys.
+    pub fn record(&self) -> &sys::Session {
+        &self.0
+    }
+}
