@@ -1,0 +1,49 @@
+//! The refusals of document 01.
+
+/// Why a call is refused, with the document's number.
+#[derive(Clone, Copy, PartialEq, Eq, Debug)]
+#[repr(u8)]
+pub enum Refusal {
+    /// B, S or P is not allowed.
+    BadGeometry = 1,
+    /// The device is not as long as its geometry says.
+    DeviceLength = 2,
+    /// The key is not 32 bytes.
+    KeyLength = 3,
+    /// The map table is not 15 x P entries, or the owner table not P bytes.
+    TableLength = 4,
+    /// The permutation is not P long, or does not name each slice once.
+    BadPermutation = 5,
+    /// No key cell opens.
+    NoCell = 6,
+    /// The tag of a needed header is wrong.
+    HeaderTag = 7,
+    /// A header's P or S differs from the geometry.
+    HeaderGeometry = 8,
+    /// A map entry is neither unmapped nor below P.
+    BadEntry = 9,
+    /// A slice is mapped twice.
+    SliceTwice = 10,
+    /// The volume is above k.
+    VolumeAbove = 11,
+    /// The address is P x S or more.
+    AddressAbove = 12,
+    /// Another length, or the position, is outside its limits.
+    WrongLength = 13,
+    /// A line of the walk is malformed.
+    MalformedLine = 14,
+    /// The authentication tag differs.
+    TagDiffers = 15,
+    /// The session is closed, its geometry is not allowed, or its k is above 14.
+    NotOpen = 20,
+    /// The tape has fewer bytes left than the call needs, or the position is past its end.
+    TapeShort = 21,
+    /// No slice that the permutation names is free.
+    NoFreeSlice = 22,
+}
+
+impl Refusal {
+    pub fn number(self) -> u8 {
+        self as u8
+    }
+}

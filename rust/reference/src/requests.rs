@@ -1,0 +1,211 @@
+//! Read, find, write and close.
+
+use crate::aes::KEY;
+use crate::ctr;
+use crate::geometry::{Geometry, IV};
+use crate::refusal::Refusal;
+use crate::session::{tables_fit, Refused, Session, Stored, Tables, Tape, Target, KEYS, UNMAPPED};
+
+/// The tests with which every request begins: the session, the device, the tables.
+fn check_lent(
+    device: &[u8],
+    maps: &[u32],
+    owners: &[u8],
+    session: &Session,
+) -> Result<Geometry, Refusal> {
+    let geometry = session.geometry().ok_or(Refusal::NotOpen)?;
+    if device.len() != geometry.device_len() {
+        return Err(Refusal::DeviceLength);
+    }
+    if !tables_fit(geometry, maps, owners) {
+        return Err(Refusal::TableLength);
+    }
+    Ok(geometry)
+}
+
+/// The index of the target's map entry, and the offset of its block in the slice.
+fn locate(
+    geometry: Geometry,
+    session: &Session,
+    target: Target,
+) -> Result<(usize, usize), Refusal> {
+    if target.volume > session.k {
+        return Err(Refusal::VolumeAbove);
+    }
+    if target.address >= geometry.addresses() {
+        return Err(Refusal::AddressAbove);
+    }
+    let logical = target.address / geometry.s;
+    let offset = target.address % geometry.s;
+    Ok((target.volume * geometry.p + logical, offset))
+}
+
+/// The physical slice of a map entry, or None where it is unmapped.
+fn mapped(geometry: Geometry, entry: u32) -> Result<Option<usize>, Refusal> {
+    match entry {
+        UNMAPPED => Ok(None),
+        slice if (slice as usize) < geometry.p => Ok(Some(slice as usize)),
+        _ => Err(Refusal::BadEntry),
+    }
+}
+
+/// The physical slice and the offset of the target, where the slice is mapped.
+fn find_block(
+    device: &[u8],
+    maps: &[u32],
+    owners: &[u8],
+    session: &Session,
+    target: Target,
+    right_buffer: impl Fn(Geometry) -> bool,
+) -> Result<(Geometry, Option<(usize, usize)>), Refusal> {
+    let geometry = check_lent(device, maps, owners, session)?;
+    let (index, offset) = locate(geometry, session, target)?;
+    if !right_buffer(geometry) {
+        return Err(Refusal::WrongLength);
+    }
+    let slice = mapped(geometry, maps[index])?;
+    Ok((geometry, slice.map(|slice| (slice, offset))))
+}
+
+/// Reads a block. An unmapped one is zeros.
+pub fn read(
+    device: &[u8],
+    maps: &[u32],
+    owners: &[u8],
+    session: &Session,
+    target: Target,
+    buf: &mut [u8],
+) -> Result<(), Refusal> {
+    let right_buffer = |geometry: Geometry| buf.len() == geometry.b;
+    let (geometry, block) = find_block(device, maps, owners, session, target, right_buffer)?;
+    match block {
+        None => buf.fill(0),
+        Some((slice, offset)) => {
+            let iv = device[geometry.iv(slice, offset)].try_into().unwrap();
+            buf.copy_from_slice(&device[geometry.data(slice, offset)]);
+            ctr::apply(session.data_key(target.volume), iv, buf);
+        }
+    }
+    Ok(())
+}
+
+/// The ciphertext of a block; empty where it is unmapped, or where a read would be refused.
+pub fn find<'a>(
+    device: &'a [u8],
+    maps: &[u32],
+    owners: &[u8],
+    session: &Session,
+    target: Target,
+) -> &'a [u8] {
+    match find_block(device, maps, owners, session, target, |_| true) {
+        Ok((geometry, Some((slice, offset)))) => &device[geometry.data(slice, offset)],
+        _ => &[],
+    }
+}
+
+/// Writes a block: over the old one where its slice is mapped, else into a free slice.
+pub fn write(
+    device: &mut [u8],
+    tables: &mut Tables,
+    permutation: &[u32],
+    tape: &mut Tape,
+    session: &Session,
+    target: Target,
+    text: &[u8],
+) -> Result<Stored, Refused> {
+    let geometry = check_lent(device, tables.maps, tables.owners, session)?;
+    if permutation.len() != geometry.p {
+        return Err(Refusal::BadPermutation.into());
+    }
+    let (index, offset) = locate(geometry, session, target)?;
+    if text.len() != geometry.b {
+        return Err(Refusal::WrongLength.into());
+    }
+    let key = session.data_key(target.volume);
+
+    if let Some(slice) = mapped(geometry, tables.maps[index])? {
+        tape.check(IV)?;
+        let iv = tape.draw(IV);
+        device[geometry.iv(slice, offset)].copy_from_slice(iv);
+        store(key, iv, text, &mut device[geometry.data(slice, offset)]);
+        return Ok(Stored::Rewritten { slice });
+    }
+
+    let (slice, probes) = first_free(permutation, tables.owners)?;
+    let short = |refusal| Refused { refusal, probes };
+    tape.check(geometry.b).map_err(short)?;
+    let (iv_block, data) = device[geometry.slice(slice)].split_at_mut(geometry.b);
+    iv_block.copy_from_slice(tape.draw(geometry.b));
+    let zeros = vec![0; geometry.b];
+    let blocks = data.chunks_mut(geometry.b).zip(iv_block.chunks(IV));
+    for (j, (block, iv)) in blocks.enumerate() {
+        store(key, iv, if j == offset { text } else { &zeros }, block);
+    }
+    tables.maps[index] = slice as u32;
+    tables.owners[slice] = target.volume as u8 + 1;
+    Ok(Stored::Claimed { slice, probes })
+}
+
+/// Stores the ciphertext of a block.
+fn store(key: &[u8; KEY], iv: &[u8], text: &[u8], block: &mut [u8]) {
+    block.copy_from_slice(text);
+    ctr::apply(key, iv.try_into().unwrap(), block);
+}
+
+/// The first free slice in the order of the permutation, and the places looked at.
+fn first_free(permutation: &[u32], owners: &[u8]) -> Result<(usize, usize), Refused> {
+    for (place, &slice) in permutation.iter().enumerate() {
+        let probes = place + 1;
+        match owners.get(slice as usize) {
+            Some(0) => return Ok((slice as usize, probes)),
+            Some(_) => {}
+            None => {
+                let refusal = Refusal::BadPermutation;
+                return Err(Refused { refusal, probes });
+            }
+        }
+    }
+    Err(Refused {
+        refusal: Refusal::NoFreeSlice,
+        probes: permutation.len(),
+    })
+}
+
+/// Writes the maps of volumes 0 to k and closes the session.
+pub fn close(
+    device: &mut [u8],
+    tables: &mut Tables,
+    tape: &mut Tape,
+    session: &mut Session,
+) -> Result<(), Refusal> {
+    let geometry = check_lent(device, tables.maps, tables.owners, session)?;
+    let volumes = session.k + 1;
+    for &entry in &tables.maps[..volumes * geometry.p] {
+        mapped(geometry, entry)?;
+    }
+    tape.check(IV * geometry.map_blocks() * volumes)?;
+
+    let rows = tables.maps.chunks(geometry.p);
+    for (volume, row) in rows.enumerate().take(volumes) {
+        let blocks = device[geometry.maps(volume)].chunks_mut(geometry.b);
+        let parts = row.chunks(geometry.entries_in_block());
+        for (block, entries) in blocks.zip(parts) {
+            write_map_block(session.data_key(volume), tape.draw(IV), entries, block);
+        }
+    }
+    tables.clear();
+    session.keys = [0; KEYS];
+    session.opened = false;
+    Ok(())
+}
+
+/// Writes the IV and the entries of a map block. Entries past the last are unmapped: four bytes FF.
+fn write_map_block(key: &[u8; KEY], drawn: &[u8], entries: &[u32], block: &mut [u8]) {
+    let (iv, text) = block.split_at_mut(IV);
+    iv.copy_from_slice(drawn);
+    text.fill(0xff);
+    for (bytes, entry) in text.chunks_mut(4).zip(entries) {
+        bytes.copy_from_slice(&entry.to_be_bytes());
+    }
+    ctr::apply(key, drawn.try_into().unwrap(), text);
+}

@@ -1,0 +1,340 @@
+//! The speed of the proved engine beside that of the reference, and of its reads and rewrites beside
+//! its own counter mode alone. Nothing here asserts a time.
+//!
+//! Each implementation is called in its own form, without the tests' interface, whose adapters copy
+//! the session.
+
+use std::hint::black_box;
+use std::time::Instant;
+
+use hiwalgam::{Block, Tables, Tape};
+use hiwalgam_reference::geometry::Geometry;
+use hiwalgam_reference::session::{self, Stored};
+use hiwalgam_reference::{opening, requests};
+use hiwalgam_tests::inputs::Random;
+use hiwalgam_tests::interface::{Target, UNMAPPED, VOLUMES};
+use hiwalgam_tests::stick::Stick;
+
+const B: usize = 4096;
+/// Rounds, in each of which every measurement has a turn.
+const ROUNDS: usize = 101;
+/// About how long a turn lasts, in seconds.
+const TURN_SECONDS: f64 = 0.001;
+
+/// What is lent to the calls on a stick with half of its slices mapped.
+#[derive(Clone)]
+struct Bench {
+    geometry: hiwalgam::Geometry,
+    device: Vec<u8>,
+    /// The key that opens all 15 volumes.
+    key: [u8; 32],
+    permutation: Vec<u32>,
+    tables: Tables,
+    tape: Vec<u8>,
+    buf: Vec<u8>,
+    mapped: Target,
+    unmapped: Target,
+}
+
+impl Bench {
+    fn new(random: &mut Random, s: usize, p: usize) -> Self {
+        let stick = Stick::random(random, Geometry::new(B, s, p).unwrap(), VOLUMES, p / 2);
+        let mapped = stick.texts.keys().copied();
+        let mapped = mapped.min_by_key(|target| (target.volume, target.address));
+        let mut entries = stick.volumes[0].map.iter();
+        let logical = entries.position(|&entry| entry == UNMAPPED);
+        let geometry = hiwalgam::Geometry {
+            block_bytes: B as u64,
+            slice_blocks: s as u64,
+            slices: p as u64,
+        };
+        Bench {
+            geometry,
+            device: stick.device,
+            key: stick.volumes[VOLUMES - 1].key,
+            permutation: random.permutation(p),
+            tables: Tables::new(geometry),
+            tape: random.bytes(B).to_vec(),
+            buf: vec![0; B],
+            mapped: mapped.unwrap(),
+            unmapped: Target {
+                volume: 0,
+                address: logical.unwrap() * s,
+            },
+        }
+    }
+}
+
+/// An open session of one implementation. Each call tests that it is served.
+trait Session: Sized {
+    /// Opens all volumes.
+    fn opened(bench: &mut Bench) -> Self;
+
+    /// Reads the mapped block.
+    fn read(&mut self, bench: &mut Bench);
+
+    /// Finds the mapped block, which is not copied.
+    fn find(&mut self, bench: &mut Bench);
+
+    /// Writes a block with the first bytes of the tape, and gives the slice.
+    fn write(&mut self, bench: &mut Bench, target: Target) -> usize;
+
+    /// Closes a copy of the session.
+    fn close(&mut self, bench: &mut Bench);
+}
+
+fn open<S: Session>(session: &mut S, bench: &mut Bench) {
+    *session = S::opened(bench);
+}
+
+fn rewrite<S: Session>(session: &mut S, bench: &mut Bench) {
+    session.write(bench, bench.mapped);
+}
+
+/// A claim, which is then taken back in the tables.
+fn claim<S: Session>(session: &mut S, bench: &mut Bench) {
+    let slice = session.write(bench, bench.unmapped);
+    let entry = bench.unmapped.address / bench.geometry.slice_blocks as usize;
+    assert_eq!(bench.tables.maps[entry], slice as u32);
+    bench.tables.maps[entry] = UNMAPPED;
+    bench.tables.owners[slice] = 0;
+}
+
+/// A close, after which the tables are put back.
+fn close<S: Session>(session: &mut S, bench: &mut Bench) {
+    let tables = bench.tables.clone();
+    session.close(bench);
+    bench.tables = tables;
+}
+
+struct Library(hiwalgam::Session);
+
+fn block(target: Target) -> Block {
+    Block {
+        volume: target.volume as u64,
+        address: target.address as u64,
+    }
+}
+
+impl Session for Library {
+    fn opened(bench: &mut Bench) -> Self {
+        let (device, geometry, order) = (&bench.device, bench.geometry, &bench.permutation);
+        let tables = &mut bench.tables;
+        let session = hiwalgam::Session::open(device, geometry, &bench.key, tables, order);
+        let session = session.unwrap();
+        assert_eq!(session.volume(), VOLUMES as u64 - 1);
+        Library(session)
+    }
+
+    fn read(&mut self, bench: &mut Bench) {
+        let (device, tables, buf) = (&bench.device, &bench.tables, &mut bench.buf);
+        let answer = self.0.read(device, tables, block(bench.mapped), buf);
+        answer.unwrap();
+    }
+
+    fn find(&mut self, bench: &mut Bench) {
+        let (device, tables) = (&bench.device, &bench.tables);
+        let found = self.0.find(device, tables, block(bench.mapped), &mut []);
+        assert_eq!(found, Some(B));
+    }
+
+    fn write(&mut self, bench: &mut Bench, target: Target) -> usize {
+        let (device, tables, order) = (&mut bench.device, &mut bench.tables, &bench.permutation);
+        let (tape, text) = (&mut Tape::new(&bench.tape), &bench.buf);
+        let written = self
+            .0
+            .write(device, tables, order, tape, block(target), text);
+        written.unwrap().change.slice() as usize
+    }
+
+    fn close(&mut self, bench: &mut Bench) {
+        let mut session = hiwalgam::Session::from_record(self.0.record().clone());
+        let (device, tables) = (&mut bench.device, &mut bench.tables);
+        let answer = session.close(device, tables, &mut Tape::new(&bench.tape));
+        answer.unwrap();
+    }
+}
+
+struct Reference(session::Session);
+
+fn reference_tables(tables: &mut Tables) -> session::Tables<'_> {
+    session::Tables {
+        maps: &mut tables.maps,
+        owners: &mut tables.owners,
+    }
+}
+
+fn reference_tape(bytes: &[u8]) -> session::Tape<'_> {
+    session::Tape { bytes, position: 0 }
+}
+
+fn reference_target(target: Target) -> session::Target {
+    let Target { volume, address } = target;
+    session::Target { volume, address }
+}
+
+impl Session for Reference {
+    fn opened(bench: &mut Bench) -> Self {
+        let (device, geometry, order) = (&bench.device, bench.geometry, &bench.permutation);
+        let numbers = [geometry.block_bytes, geometry.slice_blocks, geometry.slices];
+        let numbers = numbers.map(|number| number as usize);
+        let tables = &mut reference_tables(&mut bench.tables);
+        let session = opening::open(device, numbers, &bench.key, tables, order).unwrap();
+        assert_eq!(session.k, VOLUMES - 1);
+        Reference(session)
+    }
+
+    fn read(&mut self, bench: &mut Bench) {
+        let Tables { maps, owners } = &bench.tables;
+        let (device, target) = (&bench.device, reference_target(bench.mapped));
+        let answer = requests::read(device, maps, owners, &self.0, target, &mut bench.buf);
+        answer.unwrap();
+    }
+
+    fn find(&mut self, bench: &mut Bench) {
+        let Tables { maps, owners } = &bench.tables;
+        let (device, target) = (&bench.device, reference_target(bench.mapped));
+        let found = requests::find(device, maps, owners, &self.0, target);
+        assert_eq!(found.len(), B);
+    }
+
+    fn write(&mut self, bench: &mut Bench, target: Target) -> usize {
+        let (device, order, text) = (&mut bench.device, &bench.permutation, &bench.buf);
+        let tables = &mut reference_tables(&mut bench.tables);
+        let (tape, target) = (&mut reference_tape(&bench.tape), reference_target(target));
+        match requests::write(device, tables, order, tape, &self.0, target, text) {
+            Ok(Stored::Claimed { slice, .. } | Stored::Rewritten { slice }) => slice,
+            Err(refused) => panic!("{:?}", refused.refusal),
+        }
+    }
+
+    fn close(&mut self, bench: &mut Bench) {
+        let mut session = self.0.clone();
+        let tables = &mut reference_tables(&mut bench.tables);
+        let tape = &mut reference_tape(&bench.tape);
+        requests::close(&mut bench.device, tables, tape, &mut session).unwrap();
+    }
+}
+
+/// Something that is measured, with the seconds of one call in each round.
+struct Measured {
+    name: &'static str,
+    call: Box<dyn FnMut()>,
+    calls: u32,
+    seconds: Vec<f64>,
+}
+
+impl Measured {
+    fn new(name: &'static str, call: impl FnMut() + 'static) -> Self {
+        let mut measured = Measured {
+            name,
+            call: Box::new(call),
+            calls: 20,
+            seconds: Vec::new(),
+        };
+        measured.turn();
+        let warm = measured.seconds.pop().unwrap();
+        measured.calls = (TURN_SECONDS / warm).ceil() as u32;
+        measured
+    }
+
+    /// A call of one implementation, on a bench of its own.
+    fn on<S: Session + 'static>(
+        bench: &Bench,
+        name: &'static str,
+        call: fn(&mut S, &mut Bench),
+    ) -> Self {
+        let mut bench = bench.clone();
+        let mut session = S::opened(&mut bench);
+        Measured::new(name, move || {
+            call(black_box(&mut session), black_box(&mut bench))
+        })
+    }
+
+    fn turn(&mut self) {
+        let start = Instant::now();
+        for _ in 0..self.calls {
+            (self.call)();
+        }
+        let seconds = start.elapsed().as_secs_f64();
+        self.seconds.push(seconds / f64::from(self.calls));
+    }
+
+    fn microseconds(&self) -> f64 {
+        1e6 * median(self.seconds.clone())
+    }
+
+    /// The median of how many times as long as `other` it took in a round.
+    fn ratio(&self, other: &Measured) -> f64 {
+        let rounds = self.seconds.iter().zip(&other.seconds);
+        median(rounds.map(|(seconds, other)| seconds / other).collect())
+    }
+}
+
+fn median(mut values: Vec<f64>) -> f64 {
+    values.sort_by(f64::total_cmp);
+    values[values.len() / 2]
+}
+
+/// Every call of one implementation, in the order of the table.
+fn all_calls<S: Session + 'static>(small: &Bench, large: &Bench) -> Vec<Measured> {
+    vec![
+        Measured::on(small, "read, mapped", S::read),
+        Measured::on(small, "rewrite", rewrite::<S>),
+        Measured::on(small, "claim, S 4", claim::<S>),
+        Measured::on(small, "find", S::find),
+        Measured::on(small, "close, P 256", close::<S>),
+        Measured::on(small, "open, P 256", open::<S>),
+        Measured::on(large, "open, P 4096", open::<S>),
+    ]
+}
+
+/// The library's counter mode over a block.
+fn counter_mode() -> Measured {
+    let (text, mut out) = (vec![0x5c; B], vec![0; B]);
+    Measured::new("counter mode", move || {
+        let text = black_box(&text);
+        hiwalgam::counter_mode(&[0x42; 32], &[0x17; 16], text, black_box(&mut out)).unwrap();
+    })
+}
+
+fn main() {
+    let mut random = Random::seeded();
+    let small = Bench::new(&mut random, 4, 256);
+    let large = Bench::new(&mut random, 1, 4096);
+    let mut library = all_calls::<Library>(&small, &large);
+    let mut reference = all_calls::<Reference>(&small, &large);
+    let mut counter_mode = counter_mode();
+    for _ in 0..ROUNDS {
+        for (library, reference) in library.iter_mut().zip(&mut reference) {
+            library.turn();
+            reference.turn();
+        }
+        counter_mode.turn();
+    }
+
+    println!("B {B}, 15 volumes open, half of the slices mapped; medians of {ROUNDS} rounds.");
+    println!("Times of one call in microseconds; ratios are of times in the same round.\n");
+    println!("call              library    reference  library/reference");
+    for (library, reference) in library.iter().zip(&reference) {
+        let (name, ratio) = (library.name, library.ratio(reference));
+        let (library, reference) = (library.microseconds(), reference.microseconds());
+        println!("{name:<14} {library:>10.3} {reference:>12.3} {ratio:>18.3}");
+    }
+    let alone = counter_mode.microseconds();
+    println!("\nThe library's counter mode alone over {B} bytes: {alone:.3}");
+    for (name, ratio) in [
+        ("read / counter mode", library[0].ratio(&counter_mode)),
+        ("rewrite / counter mode", library[1].ratio(&counter_mode)),
+        (
+            "open P 4096 / P 256, library",
+            library[6].ratio(&library[5]),
+        ),
+        (
+            "open P 4096 / P 256, reference",
+            reference[6].ratio(&reference[5]),
+        ),
+    ] {
+        println!("{name:<32} {ratio:.3}");
+    }
+}

@@ -1,0 +1,426 @@
+//! The C functions, with every struct as bytes between guards.
+//!
+//! A struct is laid out here by its bytes, as the header describes it, so that the layout is tested
+//! too. An empty list is handed over as null.
+
+use std::ptr;
+
+use hiwalgam::sys::{self, SESSION_BYTES, WRITTEN_BYTES};
+use hiwalgam::Refusal;
+
+use crate::inputs::Guarded;
+use crate::interface::{
+    Answer, Ciphers, Engine, Session, Tables, Tape, Target, Written, KEYS, SERVED,
+};
+
+#[derive(Debug)]
+pub struct CFunctions;
+
+/// The memory of a struct, and the size that is handed over with its address. The address is null
+/// where there is no memory.
+#[derive(Clone, PartialEq)]
+pub struct Record {
+    bytes: Guarded,
+    size: usize,
+}
+
+impl Record {
+    /// A struct of all these bytes.
+    pub fn new(bytes: &[u8]) -> Self {
+        Record {
+            bytes: Guarded::new(bytes),
+            size: bytes.len(),
+        }
+    }
+
+    /// A struct that is to be written.
+    pub fn blank(size: usize) -> Self {
+        Record::new(&Guarded::blank(size))
+    }
+
+    /// The same memory under a smaller size.
+    pub fn cut(&self, size: usize) -> Self {
+        assert!(size <= self.bytes.len());
+        let bytes = self.bytes.clone();
+        Record { bytes, size }
+    }
+
+    pub fn geometry(numbers: [usize; 3]) -> Self {
+        Record::new(numbers.map(usize::to_le_bytes).as_flattened())
+    }
+
+    pub fn session(session: &Session) -> Self {
+        let &Session {
+            b, s, p, k, open, ..
+        } = session;
+        let numbers = [b, s, p, k, open].map(usize::to_le_bytes);
+        Record::new(&[numbers.as_flattened(), &session.keys].concat())
+    }
+
+    pub fn bytes(&self) -> &[u8] {
+        &self.bytes
+    }
+
+    pub fn size(&self) -> usize {
+        self.size
+    }
+
+    /// The numbers with which the struct begins.
+    fn numbers<const N: usize>(&self) -> [usize; N] {
+        assert!(self.bytes.is_intact(), "the guards of a struct");
+        let (numbers, _) = self.bytes.as_chunks();
+        std::array::from_fn(|i| usize::from_le_bytes(numbers[i]))
+    }
+
+    fn to_session(&self) -> Session {
+        let [b, s, p, k, open] = self.numbers();
+        Session {
+            b,
+            s,
+            p,
+            k,
+            open,
+            keys: self.bytes[SESSION_BYTES - KEYS..].try_into().unwrap(),
+        }
+    }
+
+    fn to_written(&self, answer: Answer) -> Written {
+        let [claimed, slice, probes] = self.numbers();
+        Written {
+            answer,
+            claimed,
+            slice,
+            probes,
+        }
+    }
+
+    fn start<T>(&self) -> *const T {
+        start(&self.bytes).cast()
+    }
+
+    fn start_mut<T>(&mut self) -> *mut T {
+        start_mut(&mut self.bytes).cast()
+    }
+}
+
+fn start<T>(elements: &[T]) -> *const T {
+    match elements {
+        [] => ptr::null(),
+        _ => elements.as_ptr(),
+    }
+}
+
+fn start_mut<T>(elements: &mut [T]) -> *mut T {
+    match elements {
+        [] => ptr::null_mut(),
+        _ => elements.as_mut_ptr(),
+    }
+}
+
+fn answer(number: u8) -> Answer {
+    match number {
+        0 => SERVED,
+        _ => Err(Refusal::from_number(number).unwrap_or_else(|| panic!("answer {number}"))),
+    }
+}
+
+// In each call every pointer and the length after it come from one list or struct, which is borrowed
+// until the call returns, mutably where the call writes. A record's size is at most its memory's.
+
+/// `hiwalgam_open`.
+#[rustfmt::skip]
+pub fn open(
+    device: &[u8],
+    geometry: &Record,
+    key: &[u8],
+    tables: &mut Tables,
+    permutation: &[u32],
+    session: &mut Record,
+) -> Answer {
+    // SAFETY: each pointer goes with a length for which it is valid.
+    answer(unsafe {
+        sys::hiwalgam_open(
+            start(device), device.len(),
+            geometry.start(), geometry.size,
+            start(key), key.len(),
+            start_mut(tables.maps), tables.maps.len(),
+            start_mut(tables.owners), tables.owners.len(),
+            start(permutation), permutation.len(),
+            session.start_mut(), session.size,
+        )
+    })
+}
+
+/// `hiwalgam_read`.
+#[rustfmt::skip]
+pub fn read(
+    device: &[u8],
+    tables: &Tables,
+    session: &Record,
+    target: Target,
+    buf: &mut [u8],
+) -> Answer {
+    // SAFETY: each pointer goes with a length for which it is valid.
+    answer(unsafe {
+        sys::hiwalgam_read(
+            start(device), device.len(),
+            start(tables.maps), tables.maps.len(),
+            start(tables.owners), tables.owners.len(),
+            session.start(), session.size,
+            target.volume as u64, target.address as u64,
+            start_mut(buf), buf.len(),
+        )
+    })
+}
+
+/// `hiwalgam_find`.
+#[rustfmt::skip]
+pub fn find(
+    device: &[u8],
+    tables: &Tables,
+    session: &Record,
+    target: Target,
+    out: &mut [u8],
+) -> usize {
+    // SAFETY: each pointer goes with a length for which it is valid.
+    unsafe {
+        sys::hiwalgam_find(
+            start(device), device.len(),
+            start(tables.maps), tables.maps.len(),
+            start(tables.owners), tables.owners.len(),
+            session.start(), session.size,
+            target.volume as u64, target.address as u64,
+            start_mut(out), out.len(),
+        )
+    }
+}
+
+/// `hiwalgam_write`.
+#[rustfmt::skip]
+#[allow(clippy::too_many_arguments)]
+pub fn write(
+    device: &mut [u8],
+    tables: &mut Tables,
+    permutation: &[u32],
+    tape: &mut Tape,
+    session: &mut Record,
+    target: Target,
+    text: &[u8],
+    written: &mut Record,
+) -> Answer {
+    let mut position = Guarded::new(&[tape.position]);
+    // SAFETY: each pointer goes with a length for which it is valid.
+    let number = unsafe {
+        sys::hiwalgam_write(
+            start_mut(device), device.len(),
+            start_mut(tables.maps), tables.maps.len(),
+            start_mut(tables.owners), tables.owners.len(),
+            start(permutation), permutation.len(),
+            start(tape.bytes), tape.bytes.len(), start_mut(&mut position),
+            session.start_mut(), session.size,
+            target.volume as u64, target.address as u64,
+            start(text), text.len(),
+            written.start_mut(), written.size,
+        )
+    };
+    assert!(position.is_intact(), "the guards of the position");
+    tape.position = position[0];
+    answer(number)
+}
+
+/// `hiwalgam_close`.
+#[rustfmt::skip]
+pub fn close(
+    device: &mut [u8],
+    tables: &mut Tables,
+    tape: &mut Tape,
+    session: &mut Record,
+) -> Answer {
+    let mut position = Guarded::new(&[tape.position]);
+    // SAFETY: each pointer goes with a length for which it is valid.
+    let number = unsafe {
+        sys::hiwalgam_close(
+            start_mut(device), device.len(),
+            start_mut(tables.maps), tables.maps.len(),
+            start_mut(tables.owners), tables.owners.len(),
+            start(tape.bytes), tape.bytes.len(), start_mut(&mut position),
+            session.start_mut(), session.size,
+        )
+    };
+    assert!(position.is_intact(), "the guards of the position");
+    tape.position = position[0];
+    answer(number)
+}
+
+impl Engine for CFunctions {
+    fn open(
+        &self,
+        device: &[u8],
+        numbers: [usize; 3],
+        key: &[u8],
+        tables: &mut Tables,
+        permutation: &[u32],
+        session: &mut Session,
+    ) -> Answer {
+        let (geometry, mut record) = (Record::geometry(numbers), Record::session(session));
+        let answer = open(device, &geometry, key, tables, permutation, &mut record);
+        assert!(
+            geometry == Record::geometry(numbers),
+            "the geometry of an opening"
+        );
+        *session = record.to_session();
+        answer
+    }
+
+    fn read(
+        &self,
+        device: &[u8],
+        tables: &Tables,
+        session: &Session,
+        target: Target,
+        buf: &mut [u8],
+    ) -> Answer {
+        let record = Record::session(session);
+        let answer = read(device, tables, &record, target, buf);
+        assert!(record == Record::session(session), "the session of a read");
+        answer
+    }
+
+    fn find(
+        &self,
+        device: &[u8],
+        tables: &Tables,
+        session: &Session,
+        target: Target,
+        out: &mut [u8],
+    ) -> usize {
+        let record = Record::session(session);
+        let found = find(device, tables, &record, target, out);
+        assert!(record == Record::session(session), "the session of a find");
+        found
+    }
+
+    fn write(
+        &self,
+        device: &mut [u8],
+        tables: &mut Tables,
+        permutation: &[u32],
+        tape: &mut Tape,
+        session: &mut Session,
+        target: Target,
+        text: &[u8],
+    ) -> Written {
+        // What is not written shows.
+        let (mut record, mut written) = (Record::session(session), Record::blank(WRITTEN_BYTES));
+        let answer = write(
+            device,
+            tables,
+            permutation,
+            tape,
+            &mut record,
+            target,
+            text,
+            &mut written,
+        );
+        *session = record.to_session();
+        written.to_written(answer)
+    }
+
+    fn close(
+        &self,
+        device: &mut [u8],
+        tables: &mut Tables,
+        tape: &mut Tape,
+        session: &mut Session,
+    ) -> Answer {
+        let mut record = Record::session(session);
+        let answer = close(device, tables, tape, &mut record);
+        *session = record.to_session();
+        answer
+    }
+}
+
+#[rustfmt::skip]
+impl Ciphers for CFunctions {
+    /// The library has no call for one block alone: counter mode of a block of zeros is the
+    /// encrypted IV, with the same refusals.
+    fn encrypt_block(&self, key: &[u8], block: &[u8], out: &mut [u8]) -> Answer {
+        self.counter_mode(key, block, &[0; 16], out)
+    }
+
+    fn counter_mode(&self, key: &[u8], iv: &[u8], text: &[u8], out: &mut [u8]) -> Answer {
+        // SAFETY: each pointer goes with a length for which it is valid.
+        answer(unsafe {
+            sys::hiwalgam_counter_mode(
+                start(key), key.len(),
+                start(iv), iv.len(),
+                start(text), text.len(),
+                start_mut(out), out.len(),
+            )
+        })
+    }
+
+    fn keystream_at(
+        &self,
+        key: &[u8],
+        iv: &[u8],
+        position: u64,
+        text: &[u8],
+        out: &mut [u8],
+    ) -> Answer {
+        // SAFETY: each pointer goes with a length for which it is valid.
+        answer(unsafe {
+            sys::hiwalgam_keystream_at(
+                start(key), key.len(),
+                start(iv), iv.len(),
+                position,
+                start(text), text.len(),
+                start_mut(out), out.len(),
+            )
+        })
+    }
+
+    fn gcm_seal(
+        &self,
+        key: &[u8],
+        iv: &[u8],
+        aad: &[u8],
+        text: &[u8],
+        out: &mut [u8],
+        tag: &mut [u8],
+    ) -> Answer {
+        // SAFETY: each pointer goes with a length for which it is valid.
+        answer(unsafe {
+            sys::hiwalgam_gcm_seal(
+                start(key), key.len(),
+                start(iv), iv.len(),
+                start(aad), aad.len(),
+                start(text), text.len(),
+                start_mut(out), out.len(),
+                start_mut(tag), tag.len(),
+            )
+        })
+    }
+
+    fn gcm_open(
+        &self,
+        key: &[u8],
+        iv: &[u8],
+        aad: &[u8],
+        text: &[u8],
+        tag: &[u8],
+        out: &mut [u8],
+    ) -> Answer {
+        // SAFETY: each pointer goes with a length for which it is valid.
+        answer(unsafe {
+            sys::hiwalgam_gcm_open(
+                start(key), key.len(),
+                start(iv), iv.len(),
+                start(aad), aad.len(),
+                start(text), text.len(),
+                start(tag), tag.len(),
+                start_mut(out), out.len(),
+            )
+        })
+    }
+}

@@ -1,0 +1,202 @@
+//! The reference.
+
+use hiwalgam::Refusal;
+use hiwalgam_reference::session::{self, Refused, Stored};
+use hiwalgam_reference::{aes, ctr, gcm, opening, refusal, requests};
+
+use crate::interface::{Answer, Ciphers, Engine, Session, Tables, Tape, Target, Written, SERVED};
+
+#[derive(Debug)]
+pub struct Reference;
+
+/// The refusal with the same number.
+fn same(refusal: refusal::Refusal) -> Refusal {
+    Refusal::from_number(refusal.number()).unwrap()
+}
+
+fn session_of(session: &Session) -> session::Session {
+    let &Session { b, s, p, k, .. } = session;
+    session::Session {
+        b,
+        s,
+        p,
+        k,
+        keys: session.keys,
+        opened: session.open == 1,
+    }
+}
+
+fn tables_of<'a>(tables: &'a mut Tables) -> session::Tables<'a> {
+    session::Tables {
+        maps: tables.maps,
+        owners: tables.owners,
+    }
+}
+
+fn target_of(target: Target) -> session::Target {
+    let Target { volume, address } = target;
+    session::Target { volume, address }
+}
+
+/// Makes a call with the tape, whose position it moves.
+fn with_tape<T>(tape: &mut Tape, call: impl FnOnce(&mut session::Tape) -> T) -> T {
+    let mut lent = session::Tape {
+        bytes: tape.bytes,
+        position: tape.position,
+    };
+    let answer = call(&mut lent);
+    tape.position = lent.position;
+    answer
+}
+
+impl Ciphers for Reference {
+    fn encrypt_block(&self, key: &[u8], block: &[u8], out: &mut [u8]) -> Answer {
+        aes::encrypt_block(key, block, out).map_err(same)
+    }
+
+    fn counter_mode(&self, key: &[u8], iv: &[u8], text: &[u8], out: &mut [u8]) -> Answer {
+        ctr::counter_mode(key, iv, text, out).map_err(same)
+    }
+
+    fn keystream_at(
+        &self,
+        key: &[u8],
+        iv: &[u8],
+        position: u64,
+        text: &[u8],
+        out: &mut [u8],
+    ) -> Answer {
+        ctr::keystream_at(key, iv, position, text, out).map_err(same)
+    }
+
+    fn gcm_seal(
+        &self,
+        key: &[u8],
+        iv: &[u8],
+        aad: &[u8],
+        text: &[u8],
+        out: &mut [u8],
+        tag: &mut [u8],
+    ) -> Answer {
+        gcm::gcm_seal(key, iv, aad, text, out, tag).map_err(same)
+    }
+
+    fn gcm_open(
+        &self,
+        key: &[u8],
+        iv: &[u8],
+        aad: &[u8],
+        text: &[u8],
+        tag: &[u8],
+        out: &mut [u8],
+    ) -> Answer {
+        gcm::gcm_open(key, iv, aad, text, tag, out).map_err(same)
+    }
+}
+
+impl Engine for Reference {
+    fn open(
+        &self,
+        device: &[u8],
+        numbers: [usize; 3],
+        key: &[u8],
+        tables: &mut Tables,
+        permutation: &[u32],
+        session: &mut Session,
+    ) -> Answer {
+        *session = Session::CLOSED;
+        let tables = &mut tables_of(tables);
+        let opened = opening::open(device, numbers, key, tables, permutation).map_err(same)?;
+        *session = Session {
+            b: opened.b,
+            s: opened.s,
+            p: opened.p,
+            k: opened.k,
+            open: usize::from(opened.opened),
+            keys: opened.keys,
+        };
+        SERVED
+    }
+
+    fn read(
+        &self,
+        device: &[u8],
+        tables: &Tables,
+        session: &Session,
+        target: Target,
+        buf: &mut [u8],
+    ) -> Answer {
+        let (session, target) = (session_of(session), target_of(target));
+        requests::read(device, tables.maps, tables.owners, &session, target, buf).map_err(same)
+    }
+
+    fn find(
+        &self,
+        device: &[u8],
+        tables: &Tables,
+        session: &Session,
+        target: Target,
+        out: &mut [u8],
+    ) -> usize {
+        let (session, target) = (session_of(session), target_of(target));
+        let found = requests::find(device, tables.maps, tables.owners, &session, target);
+        if let Some(out) = out.get_mut(..found.len()) {
+            out.copy_from_slice(found);
+        }
+        found.len()
+    }
+
+    fn write(
+        &self,
+        device: &mut [u8],
+        tables: &mut Tables,
+        permutation: &[u32],
+        tape: &mut Tape,
+        session: &mut Session,
+        target: Target,
+        text: &[u8],
+    ) -> Written {
+        let (tables, session, target) = (
+            &mut tables_of(tables),
+            session_of(session),
+            target_of(target),
+        );
+        let stored = with_tape(tape, |tape| {
+            requests::write(device, tables, permutation, tape, &session, target, text)
+        });
+        match stored {
+            Ok(Stored::Claimed { slice, probes }) => Written {
+                answer: SERVED,
+                claimed: 1,
+                slice,
+                probes,
+            },
+            Ok(Stored::Rewritten { slice }) => Written {
+                slice,
+                ..Written::of(SERVED)
+            },
+            Err(Refused { refusal, probes }) => Written {
+                probes,
+                ..Written::of(Err(same(refusal)))
+            },
+        }
+    }
+
+    /// A refused close leaves the session as it was, also a number for closed that is not 0.
+    fn close(
+        &self,
+        device: &mut [u8],
+        tables: &mut Tables,
+        tape: &mut Tape,
+        session: &mut Session,
+    ) -> Answer {
+        let (tables, mut closed) = (&mut tables_of(tables), session_of(session));
+        let answer = with_tape(tape, |tape| {
+            requests::close(device, tables, tape, &mut closed)
+        });
+        answer.map_err(same)?;
+        session.open = usize::from(closed.opened);
+        session.keys = closed.keys;
+        SERVED
+    }
+}

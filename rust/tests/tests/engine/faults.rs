@@ -1,0 +1,364 @@
+//! Everything that can be wrong with a call, in the order in which it is to be refused.
+
+use std::rc::Rc;
+
+use hiwalgam::Refusal::{self, *};
+use hiwalgam_reference::geometry::{Geometry, IV};
+use hiwalgam_tests::inputs::{Guarded, Random};
+use hiwalgam_tests::interface::UNMAPPED;
+use hiwalgam_tests::stick::{Stick, Volume};
+
+use crate::requests::{CLOSED, MAX, WRAPS};
+use crate::state::Call::{self, *};
+use crate::state::{at, geometry, open_and_check, State};
+
+/// Puts a fault with a value into the arguments of a call.
+type Put = Rc<dyn Fn(&mut State, usize)>;
+
+/// Something wrong with a call, and the refusal and the probes that it gives alone.
+pub struct Fault {
+    pub name: &'static str,
+    pub value: usize,
+    pub refusal: Refusal,
+    pub probes: usize,
+    put: Put,
+}
+
+impl Fault {
+    pub fn put(&self, state: &mut State) {
+        (self.put)(state, self.value);
+    }
+}
+
+/// The faults of a call in the order in which they are to be tested. Where two set the same thing,
+/// the earlier one is put last and stays.
+#[derive(Default)]
+pub struct Faults(pub Vec<Fault>);
+
+impl Faults {
+    /// Adds a fault for each value, without probes. `put` must not mind what another fault did.
+    fn add<F>(&mut self, refusal: Refusal, name: &'static str, values: &[usize], put: F)
+    where
+        F: Fn(&mut State, usize) + 'static,
+    {
+        let put = Rc::new(put);
+        self.0.extend(values.iter().map(|&value| Fault {
+            name,
+            value,
+            refusal,
+            probes: 0,
+            put: put.clone(),
+        }));
+    }
+
+    fn device(&mut self, len: usize) {
+        let lengths = [len - 1, len + 1, 0];
+        self.add(DeviceLength, "device", &lengths, |state, len| {
+            state.device = state.device.resized(len);
+        });
+    }
+
+    fn tables(&mut self, p: usize) {
+        let lengths = [15 * p - 1, 15 * p + 1, p, 0];
+        self.add(TableLength, "maps", &lengths, |state, len| {
+            state.maps = state.maps.resized(len);
+        });
+        let lengths = [p - 1, p + 1, 15 * p, 0];
+        self.add(TableLength, "owners", &lengths, |state, len| {
+            state.owners = state.owners.resized(len);
+        });
+    }
+
+    fn permutation(&mut self, p: usize) {
+        let lengths = [p - 1, p + 1, 0];
+        self.add(BadPermutation, "permutation", &lengths, |state, len| {
+            state.permutation = state.permutation.resized(len);
+        });
+    }
+
+    /// 20, 2 and 4, with which every request begins.
+    fn lent(&mut self, base: &State) {
+        let [b, s, p] = wrong_numbers(base.session.b);
+        self.add(NotOpen, "open", &CLOSED, |state, n| state.session.open = n);
+        self.add(NotOpen, "B", &b, |state, b| state.session.b = b);
+        self.add(NotOpen, "S", &s, |state, s| state.session.s = s);
+        self.add(NotOpen, "P", &p, |state, p| state.session.p = p);
+        let k = [15, 256, 1 << 32, MAX];
+        self.add(NotOpen, "k", &k, |state, k| state.session.k = k);
+        // An allowed geometry, but of another stick.
+        let s = base.session.s % 2 + 1;
+        self.add(DeviceLength, "other S", &[s], |state, s| {
+            state.session.s = s
+        });
+        self.device(base.device.len());
+        self.tables(base.session.p);
+    }
+
+    /// 11 and 12.
+    fn target(&mut self, base: &State) {
+        let volumes = [base.session.k + 1, 15, 256, 1 << 32, MAX];
+        self.add(VolumeAbove, "volume", &volumes, |state, volume| {
+            state.target.volume = volume;
+        });
+        let addresses = [base.session.p * base.session.s, 1 << 32, MAX];
+        self.add(AddressAbove, "address", &addresses, |state, address| {
+            state.target.address = address;
+        });
+    }
+
+    /// 9 for the map entry at an index.
+    fn entry(&mut self, base: &State, index: usize) {
+        let entries = [base.session.p, 1 << 31, UNMAPPED as usize - 1];
+        self.add(BadEntry, "entry", &entries, move |state, entry| {
+            set(&mut state.maps, index, entry as u32);
+        });
+    }
+
+    /// 21.
+    fn tape(&mut self, base: &State, need: usize) {
+        let len = base.tape.len();
+        let positions = [len - need + 1, len, len + 1, MAX - need + 1, MAX];
+        self.add(TapeShort, "position", &positions, |state, position| {
+            state.position = position;
+        });
+        self.add(TapeShort, "tape", &[need - 1, 0], |state, len| {
+            state.tape = state.tape.resized(len);
+        });
+    }
+
+    /// 1 to 5 at an opening.
+    fn arguments_of_open(&mut self, base: &State) {
+        let [b, _, p] = base.numbers;
+        for (field, numbers) in wrong_numbers(b).iter().enumerate() {
+            self.add(BadGeometry, "geometry", numbers, move |state, number| {
+                state.numbers[field] = number;
+            });
+        }
+        self.device(base.device.len());
+        self.add(KeyLength, "key", &[0, 31, 33, 64], |state, len| {
+            state.key = state.key.resized(len);
+        });
+        self.tables(p);
+        self.permutation(p);
+        let first = base.permutation[0];
+        let places = [1, p - 1];
+        self.add(BadPermutation, "duplicate", &places, move |state, place| {
+            set(&mut state.permutation, place, first);
+        });
+        let places = [0, p - 1];
+        self.add(BadPermutation, "no slice", &places, move |state, place| {
+            set(&mut state.permutation, place, p as u32);
+        });
+    }
+
+    /// 6: another key, or a cell that is damaged.
+    fn cell(&mut self, base: &State, stick: &Stick) {
+        let key = base.key.clone();
+        self.add(NoCell, "other key", &[0, 31], move |state, i| {
+            set(&mut state.key, i, key[i] ^ 1);
+        });
+        let start = stick.geometry.cell(1).start;
+        let places = [start, start + 12, start + 59];
+        self.add(NoCell, "cell", &places, damage);
+    }
+
+    /// 7 and 8 for header `i`.
+    fn header(&mut self, random: &mut Random, stick: &Stick, i: usize) {
+        let Geometry { s, p, .. } = stick.geometry;
+        let start = stick.geometry.header(i).start;
+        let places = [0, 12, 83, 99].map(|i| start + i);
+        self.add(HeaderTag, "header", &places, damage);
+        for numbers in [[p + 1, s], [p, s + 1], [p + 256, s]] {
+            let mut other = stick.clone();
+            other.volumes[i].numbers = numbers.map(|number| number as u32);
+            other.seal_header(random, i);
+            let header = other.device[start..start + 100].to_vec();
+            self.add(
+                HeaderGeometry,
+                "numbers in header",
+                &[i],
+                move |state, _| {
+                    for (j, &byte) in header.iter().enumerate() {
+                        set(&mut state.device, start + j, byte);
+                    }
+                },
+            );
+        }
+    }
+
+    /// 9 and 10 for entries of a volume that are unmapped, in the order of reading: they become
+    /// slice 2, or no slice.
+    fn map(&mut self, stick: &Stick, volume: usize) {
+        let Geometry { b, p, .. } = stick.geometry;
+        for (logical, entry, refusal) in [
+            (1, p as u32, BadEntry),
+            (p - 2, 2, SliceTwice),
+            (p - 1, UNMAPPED - 1, BadEntry),
+        ] {
+            let in_block = stick.geometry.entries_in_block();
+            let block = stick.geometry.maps(volume).start + b * (logical / in_block);
+            let start = block + IV + 4 * (logical % in_block);
+            let cipher = stick.device[start..start + 4].to_vec();
+            let change = (entry ^ UNMAPPED).to_be_bytes();
+            self.add(refusal, "entry", &[logical], move |state, _| {
+                for i in 0..4 {
+                    set(&mut state.device, start + i, cipher[i] ^ change[i]);
+                }
+            });
+        }
+    }
+
+    fn of_open(random: &mut Random, stick: &Stick, base: &State) -> Self {
+        let mut faults = Faults::default();
+        faults.arguments_of_open(base);
+        faults.cell(base, stick);
+        for i in [1, 0] {
+            faults.header(random, stick, i);
+        }
+        for volume in 0..2 {
+            faults.map(stick, volume);
+        }
+        faults
+    }
+
+    fn of_find(base: &State) -> Self {
+        let mut faults = Faults::default();
+        faults.lent(base);
+        faults.target(base);
+        faults.entry(base, base.entry());
+        faults
+    }
+
+    fn of_read(base: &State) -> Self {
+        let mut faults = Faults::default();
+        faults.lent(base);
+        faults.target(base);
+        let lengths = wrong_lengths(base.session.b);
+        faults.add(WrongLength, "buffer", &lengths, |state, len| {
+            state.buf = state.buf.resized(len);
+        });
+        faults.entry(base, base.entry());
+        faults
+    }
+
+    fn of_write(base: &State) -> Self {
+        let (b, p) = (base.session.b, base.session.p);
+        let claim = base.maps[base.entry()] == UNMAPPED;
+        let mut faults = Faults::default();
+        faults.lent(base);
+        faults.permutation(p);
+        faults.target(base);
+        faults.add(WrongLength, "text", &wrong_lengths(b), |state, len| {
+            state.text = state.text.resized(len);
+        });
+        faults.entry(base, base.entry());
+        if claim {
+            faults.add(BadPermutation, "place", &[0, 1, 2], move |state, place| {
+                let no_slice = [p as u32, UNMAPPED, 1 << 31][place];
+                set(&mut state.permutation, place, no_slice);
+            });
+            let owners = [1, 15, 16, 255];
+            faults.add(NoFreeSlice, "all held", &owners, |state, owner| {
+                state.owners.fill(owner as u8);
+            });
+        }
+        faults.tape(base, if claim { b } else { IV });
+        for fault in &mut faults.0 {
+            fault.probes = match fault.name {
+                "place" => fault.value + 1,
+                "all held" => p,
+                "position" | "tape" if claim => 3,
+                _ => 0,
+            };
+        }
+        faults
+    }
+
+    fn of_close(base: &State, layout: Geometry) -> Self {
+        let p = layout.p;
+        let mut faults = Faults::default();
+        faults.lent(base);
+        for index in [0, p - 1, p, 2 * p - 1] {
+            faults.entry(base, index);
+        }
+        faults.tape(base, 2 * IV * layout.map_blocks());
+        faults
+    }
+}
+
+/// Makes a byte of the device, where there is one, another than it is.
+fn damage(state: &mut State, i: usize) {
+    if let Some(byte) = state.device.get_mut(i) {
+        *byte ^= 0x10;
+    }
+}
+
+/// Sets an element, where there is one.
+fn set<T>(elements: &mut [T], index: usize, value: T) {
+    if let Some(element) = elements.get_mut(index) {
+        *element = value;
+    }
+}
+
+/// Values of B, S and P that are not allowed.
+fn wrong_numbers(b: usize) -> [Vec<usize>; 3] {
+    [
+        vec![0, 1, b - 1, b + 1, 2048, WRAPS, MAX],
+        vec![0, b / 16 + 1, WRAPS, MAX],
+        vec![0, 4097, WRAPS, MAX],
+    ]
+}
+
+/// Lengths that a buffer for a block must not have.
+fn wrong_lengths(b: usize) -> [usize; 4] {
+    [0, b - 1, b + 1, 5120 - b]
+}
+
+/// Runs a test on sticks of several geometries, which `state` opens at volume 1 of 3. Volume 0 maps
+/// its logical slice 0 to slice 2, volume 1 to slice 3, and no other.
+pub fn with_sticks(mut test: impl FnMut(&mut Random, &Stick, State)) {
+    let mut random = Random::seeded();
+    for (b, s, p) in [(1024, 4, 4), (1024, 3, 17), (1024, 1, 253), (4096, 2, 5)] {
+        let layout = geometry(b, s, p);
+        let mut volumes = [(); 3].map(|()| Volume::new(&mut random, layout));
+        volumes[0].map[0] = 2;
+        volumes[1].map[0] = 3;
+        let stick = Stick::new(&mut random, layout, volumes.to_vec());
+        let state = State::new(&mut random, &stick, 1);
+        test(&mut random, &stick, state);
+    }
+}
+
+/// The slices in order, but 2 and 3 first, which are held: a claim takes the third place.
+pub fn held_first(p: usize) -> Guarded<u32> {
+    let mut slices: Vec<u32> = (0..p as u32).collect();
+    slices.rotate_left(2);
+    Guarded::new(&slices)
+}
+
+/// Runs a test on these sticks, with arguments for which the call is served, and with its faults.
+pub fn with_faults(call: Call, mut test: impl FnMut(&mut Random, &State, &Faults)) {
+    with_sticks(|random, stick, mut base| {
+        let Geometry { s, p, .. } = stick.geometry;
+        if call == Open {
+            let faults = Faults::of_open(random, stick, &base);
+            return test(random, &base, &faults);
+        }
+        open_and_check(&mut base, stick, 1);
+        base.permutation = held_first(p);
+        if call == Close {
+            let faults = Faults::of_close(&base, stick.geometry);
+            return test(random, &base, &faults);
+        }
+        // A mapped block and an unmapped one.
+        for address in [s - 1, s] {
+            base.target = at(1, address);
+            let faults = match call {
+                Read => Faults::of_read(&base),
+                Find => Faults::of_find(&base),
+                _ => Faults::of_write(&base),
+            };
+            test(random, &base, &faults);
+        }
+    });
+}

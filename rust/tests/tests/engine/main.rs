@@ -1,0 +1,13 @@
+//! The proved engine against the reference, on sticks and requests from a seeded generator.
+//! `HIWALGAM_SEED` sets another seed. The C functions, the crate `hiwalgam` and the reference serve
+//! every call, and each call is judged by its answer and by the whole of what was lent: device,
+//! tables, tape position, session and buffers, with the guards around them.
+
+mod cases;
+mod faults;
+mod opening;
+mod refusals;
+mod requests;
+mod scenarios;
+mod state;
+mod two_sticks;

@@ -1,0 +1,99 @@
+//! Each refusal, and the order of any two.
+
+use hiwalgam::Refusal::BadEntry;
+use hiwalgam_reference::geometry::Geometry;
+use hiwalgam_tests::interface::{Written, SERVED, UNMAPPED};
+
+use crate::faults::{held_first, with_faults, with_sticks};
+use crate::state::Call::{self, *};
+use crate::state::{at, open_and_check, run, run_places, State};
+
+/// Tests each fault of a call alone, and every two together.
+fn refuses(call: Call) {
+    with_faults(call, |_, base, faults| {
+        assert_eq!(run(call, &mut base.clone()), SERVED);
+        for (i, first) in faults.0.iter().enumerate() {
+            for (j, second) in faults.0.iter().enumerate().skip(i) {
+                let mut state = base.clone();
+                if i != j {
+                    second.put(&mut state);
+                }
+                first.put(&mut state);
+                let (answer, _) = run_places(call, &mut state);
+                let mut expected = Written::of(SERVED);
+                if call == Find {
+                    assert_eq!(state.found, 0);
+                } else {
+                    expected.answer = Err(first.refusal);
+                    expected.probes = first.probes;
+                }
+                let first = (first.name, first.value);
+                let second = (second.name, second.value);
+                assert_eq!(answer, expected, "{call:?}, {first:?}, {second:?}");
+            }
+        }
+    });
+}
+
+#[test]
+fn refusals_of_open() {
+    refuses(Open);
+}
+
+#[test]
+fn refusals_of_read() {
+    refuses(Read);
+}
+
+#[test]
+fn refusals_of_find() {
+    refuses(Find);
+}
+
+#[test]
+fn refusals_of_write() {
+    refuses(Write);
+}
+
+#[test]
+fn refusals_of_close() {
+    refuses(Close);
+}
+
+/// What a call does not look at does not refuse it.
+#[test]
+fn no_refusal() {
+    with_sticks(|_, stick, mut base| {
+        let Geometry { s, p, .. } = stick.geometry;
+        open_and_check(&mut base, stick, 1);
+        base.permutation = held_first(p);
+        let changes: [fn(&mut State); 5] = [
+            // Keys and rows above k, owners above 15.
+            |state| state.session.keys[64..].fill(1),
+            |state| state.maps[2 * state.session.p..].fill(UNMAPPED - 1),
+            |state| state.owners[2..4].fill(255),
+            // Places after the free one, and duplicates.
+            |state| state.permutation[3..].fill(UNMAPPED),
+            |state| state.permutation[1] = state.permutation[0],
+        ];
+        for change in changes {
+            for (call, address) in [(Read, 0), (Find, 0), (Write, 0), (Write, s), (Close, 0)] {
+                let mut state = base.clone();
+                state.target = at(1, address);
+                change(&mut state);
+                assert_eq!(run(call, &mut state), SERVED, "{call:?}");
+                assert!(call != Find || state.found == state.session.b);
+            }
+        }
+        // Read and write look at the asked entry alone, and a rewrite at no owner and no place.
+        base.target = at(1, 0);
+        base.maps.fill(p as u32);
+        base.maps[p] = 3;
+        base.owners.fill(0);
+        base.permutation.fill(UNMAPPED);
+        for call in [Read, Find, Write] {
+            assert_eq!(run(call, &mut base), SERVED);
+        }
+        assert_eq!(run(Close, &mut base), Err(BadEntry));
+    });
+}

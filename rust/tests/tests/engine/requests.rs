@@ -1,0 +1,112 @@
+//! Requests from the generator.
+
+use hiwalgam_tests::inputs::{Guarded, Random};
+use hiwalgam_tests::interface::{Session, KEYS, UNMAPPED};
+
+use crate::state::Call::{self, *};
+use crate::state::{at, State};
+
+/// A number that is 1,024 in 32 bits.
+pub const WRAPS: usize = (1 << 32) + 1024;
+pub const MAX: usize = usize::MAX;
+
+/// Numbers at the edges of what is allowed, and of 32 and 64 bits.
+#[rustfmt::skip]
+pub const EDGES: [usize; 16] = [
+    0, 1, 2, 4, 64, 65, 1023, 1024, 4096, 4097, 1 << 31, 1 << 32, WRAPS, 1 << 63, MAX - 15, MAX,
+];
+
+/// Numbers for a session that is closed: any but 1.
+pub const CLOSED: [usize; 7] = [0, 2, 7, 255, 257, (1 << 32) + 1, MAX];
+
+/// Sets the arguments of a request, some of them wrong, and returns its call.
+pub fn request(random: &mut Random, state: &mut State) -> Call {
+    let Session { b, s, p, k, .. } = state.session;
+    let wrong = |random: &mut Random| random.once_in(25);
+    // Half of the addresses are in the first slices, where requests meet.
+    let addresses = [p * s, (p * s).min(2 * s + 2)];
+    let bound = random.pick(&addresses);
+    state.target = at(random.below(k + 1), random.below(bound));
+    if wrong(random) {
+        state.target.volume = random.pick(&[k + 1, 14, 15, 1 << 32, MAX]);
+    }
+    if wrong(random) {
+        state.target.address = random.pick(&[p * s, p * s + 1, 1 << 32, MAX]);
+    }
+    let len = |random: &mut Random| match random.once_in(25) {
+        true => random.pick(&[0, 1, b - 1, b + 1, 5120 - b]),
+        false => b,
+    };
+    let text_len = len(random);
+    state.text = random.bytes(text_len);
+    state.buf = Guarded::blank(len(random));
+
+    state.permutation = permutation(random, p);
+    if wrong(random) {
+        state.permutation = state.permutation.resized(random.pick(&[0, p - 1, p + 1]));
+    }
+    if state.position > state.tape.len() || state.tape.len() - state.position < b {
+        let len = 3 * b + random.below(40);
+        state.new_tape(random, len);
+        state.position = random.pick(&[0, 0, 7]);
+    }
+    if random.once_in(15) {
+        let len = state.tape.len();
+        let positions = [len - b, len - b + 1, len - 16, len - 15, len, len + 1, MAX];
+        state.position = random.pick(&positions);
+    }
+    random.pick(&[Write, Write, Write, Write, Read, Read, Read, Find])
+}
+
+/// A permutation, sometimes with an entry that is another's duplicate or no slice.
+fn permutation(random: &mut Random, p: usize) -> Guarded<u32> {
+    let mut permutation = random.permutation(p);
+    if random.once_in(5) {
+        let entry = random.below(p + 2) as u32;
+        permutation[random.below(p)] = random.pick(&[entry, UNMAPPED, 1 << 31]);
+    }
+    Guarded::new(&permutation)
+}
+
+/// Makes one thing wrong, of whatever kind.
+pub fn spoil(random: &mut Random, state: &mut State) {
+    let edge = random.pick(&EDGES);
+    let near = |random: &mut Random, len: usize| random.pick(&[0, len / 2, len + 1, 2 * len]);
+    match random.below(21) {
+        0 => state.session.b = edge,
+        1 => state.session.s = edge,
+        2 => state.session.p = edge,
+        3 => state.session.k = random.pick(&[edge, 14, 15]),
+        4 => state.session.open = random.pick(&CLOSED),
+        5 => state.session.keys[random.below(KEYS)] ^= 1,
+        6 => state.device = state.device.resized(near(random, state.device.len())),
+        7 => state.maps = state.maps.resized(near(random, state.maps.len())),
+        8 => state.owners = state.owners.resized(near(random, state.owners.len())),
+        9 => state.permutation = state.permutation.resized(random.below(20)),
+        10 => state.key = state.key.resized(near(random, state.key.len())),
+        11 => state.text = state.text.resized(near(random, state.text.len())),
+        12 => state.buf = state.buf.resized(near(random, state.buf.len())),
+        13 => state.tape = state.tape.resized(near(random, state.tape.len())),
+        14 => state.position = edge,
+        15 => state.numbers[random.below(3)] = edge,
+        16 => state.target.volume = edge,
+        17 => state.target.address = edge,
+        18 => random.fill(&mut state.owners),
+        19 if !state.maps.is_empty() => {
+            for _ in 0..4 {
+                let entry = random.below(state.maps.len());
+                state.maps[entry] = random.pick(&[0, 1, 4, 300, 4096, 1 << 31, UNMAPPED - 1]);
+            }
+        }
+        _ => {
+            // Mostly in the master block and the headers.
+            for _ in 0..4 {
+                let bound = random.pick(&[1024, 9000, state.device.len()]);
+                let bound = bound.min(state.device.len());
+                if bound > 0 {
+                    state.device[random.below(bound)] ^= 1 << random.below(8);
+                }
+            }
+        }
+    }
+}

@@ -1,0 +1,310 @@
+//! What is lent to the calls, and how a call is run and judged.
+
+use std::ops::Range;
+
+use hiwalgam::Refusal;
+use hiwalgam_reference::geometry::{Geometry, IV};
+use hiwalgam_tests::adapters::{CFunctions, Reference, Wrapper};
+use hiwalgam_tests::inputs::{Guarded, Random};
+use hiwalgam_tests::interface::{
+    Answer, Engine, Session, Tables, Tape, Target, Written, KEYS, SERVED, UNMAPPED, VOLUMES,
+};
+use hiwalgam_tests::stick::Stick;
+
+#[derive(Clone, Copy, PartialEq, Debug)]
+pub enum Call {
+    Open,
+    Read,
+    Find,
+    Write,
+    Close,
+}
+use Call::*;
+
+pub const CALLS: [Call; 5] = [Open, Read, Find, Write, Close];
+
+pub const ENGINES: [&dyn Engine; 3] = [&CFunctions, &Wrapper, &Reference];
+
+/// What is lent to the calls, and their arguments. A call uses only those that it has.
+#[derive(Clone, PartialEq)]
+pub struct State {
+    pub device: Guarded,
+    pub maps: Guarded<u32>,
+    pub owners: Guarded,
+    pub session: Session,
+    pub tape: Guarded,
+    pub position: usize,
+    /// B, S and P for an opening.
+    pub numbers: [usize; 3],
+    pub key: Guarded,
+    pub permutation: Guarded<u32>,
+    pub target: Target,
+    pub text: Guarded,
+    pub buf: Guarded,
+    /// The length that the last find gave.
+    pub found: usize,
+}
+
+impl State {
+    /// Arguments that open a stick with the key of volume `k`. The tables and the session hold
+    /// anything.
+    pub fn new(random: &mut Random, stick: &Stick, k: usize) -> Self {
+        let Geometry { b, s, p } = stick.geometry;
+        let garbage: Vec<u32> = (0..VOLUMES * p).map(|_| random.word() as u32).collect();
+        let mut state = State {
+            device: Guarded::new(&stick.device),
+            maps: Guarded::new(&garbage),
+            owners: random.bytes(p),
+            session: any_session(random),
+            tape: Guarded::blank(0),
+            position: 0,
+            numbers: [b, s, p],
+            key: Guarded::new(&stick.volumes[k].key),
+            permutation: Guarded::new(&random.permutation(p)),
+            target: at(0, 0),
+            text: random.bytes(b),
+            buf: Guarded::blank(b),
+            found: 0,
+        };
+        state.new_tape(random, 3 * b);
+        state
+    }
+
+    pub fn new_tape(&mut self, random: &mut Random, len: usize) {
+        self.tape = Guarded::blank(len);
+        random.fill_ivs(&mut self.tape);
+        self.position = 0;
+    }
+
+    /// The session's geometry, for a session that was open.
+    fn geometry(&self) -> Geometry {
+        geometry(self.session.b, self.session.s, self.session.p)
+    }
+
+    /// The index of the target's map entry.
+    pub fn entry(&self) -> usize {
+        self.target.volume * self.session.p + self.target.address / self.session.s
+    }
+
+    /// The offset of the target's block in its slice.
+    fn offset(&self) -> usize {
+        self.target.address % self.session.s
+    }
+
+    /// Makes the call. The answer has zeros for what only a write gives.
+    pub fn call(&mut self, call: Call, engine: &dyn Engine) -> Written {
+        let (device, session) = (&mut self.device, &mut self.session);
+        let mut tables = Tables {
+            maps: &mut self.maps,
+            owners: &mut self.owners,
+        };
+        let mut tape = Tape {
+            bytes: &self.tape,
+            position: self.position,
+        };
+        let (tables, tape) = (&mut tables, &mut tape);
+        let (order, target) = (&self.permutation, self.target);
+        let written = match call {
+            Open => {
+                let (numbers, key) = (self.numbers, &self.key);
+                Written::of(engine.open(device, numbers, key, tables, order, session))
+            }
+            Read => Written::of(engine.read(device, tables, session, target, &mut self.buf)),
+            Find => {
+                self.found = engine.find(device, tables, session, target, &mut self.buf);
+                Written::of(SERVED)
+            }
+            Write => engine.write(device, tables, order, tape, session, target, &self.text),
+            Close => Written::of(engine.close(device, tables, tape, session)),
+        };
+        self.position = tape.position;
+        written
+    }
+
+    /// Fails with the names of the fields that differ.
+    pub fn assert_same(&self, other: &State, what: &str) {
+        let same = [
+            ("device", self.device == other.device),
+            ("maps", self.maps == other.maps),
+            ("owners", self.owners == other.owners),
+            ("session", self.session == other.session),
+            ("position", self.position == other.position),
+            ("buffer", self.buf == other.buf),
+            ("found", self.found == other.found),
+        ];
+        let names = same.iter().filter(|field| !field.1).map(|field| field.0);
+        let names: Vec<&str> = names.collect();
+        assert!(names.is_empty(), "{what}: {names:?}");
+        assert!(self == other, "{what}: an argument");
+    }
+}
+
+/// A session of random numbers and keys.
+pub fn any_session(random: &mut Random) -> Session {
+    let [b, s, p, k, open] = [(); 5].map(|()| random.word() as usize);
+    Session {
+        b,
+        s,
+        p,
+        k,
+        open,
+        keys: random.array(),
+    }
+}
+
+pub fn at(volume: usize, address: usize) -> Target {
+    Target { volume, address }
+}
+
+pub fn geometry(b: usize, s: usize, p: usize) -> Geometry {
+    Geometry::new(b, s, p).unwrap()
+}
+
+/// Stick A of document 01: B 1,024, S 4, P 4.
+pub fn stick_a(random: &mut Random, count: usize) -> Stick {
+    Stick::random(random, geometry(1024, 4, 4), count, 2)
+}
+
+/// Runs a call on all implementations, which must agree on everything. What may change, and to
+/// what, is tested beside that. Returns the answer and the places of the device that the call
+/// writes.
+pub fn run_places(call: Call, state: &mut State) -> (Written, Vec<Range<usize>>) {
+    let before = state.clone();
+    let answer = state.call(call, &CFunctions);
+    for engine in &ENGINES[1..] {
+        let mut other = before.clone();
+        let other_answer = other.call(call, *engine);
+        assert_eq!(answer, other_answer, "answer of {call:?} by {engine:?}");
+        state.assert_same(&other, &format!("{call:?} by {engine:?}, {answer:?}"));
+    }
+    let (left, places) = effect(before, call, answer, state);
+    state.assert_same(&left, &format!("change by {call:?}, {answer:?}"));
+    (answer, places)
+}
+
+pub fn run(call: Call, state: &mut State) -> Answer {
+    run_places(call, state).0.answer
+}
+
+/// What a call with this answer leaves of `state`: by the rules, and only for ciphertexts, read
+/// texts and a served opening from `after`. Also the places of the device that it writes.
+fn effect(
+    mut state: State,
+    call: Call,
+    answer: Written,
+    after: &State,
+) -> (State, Vec<Range<usize>>) {
+    let places = match (call, answer.answer) {
+        (Open, Ok(())) => after_opening(&mut state, after),
+        (Open, Err(refusal)) => after_refused_opening(&mut state, refusal),
+        (Read, Ok(())) => {
+            state.buf = Guarded::new(&after.buf);
+            Vec::new()
+        }
+        (Find, _) => after_find(&mut state, after.found),
+        (Write, Ok(())) => after_write(&mut state, answer, after),
+        (Close, Ok(())) => after_close(&mut state, after),
+        (Read | Write | Close, Err(_)) => Vec::new(),
+    };
+    for place in &places {
+        state.device[place.clone()].copy_from_slice(&after.device[place.clone()]);
+    }
+    (state, places)
+}
+
+fn after_opening(state: &mut State, after: &State) -> Vec<Range<usize>> {
+    state.session = after.session.clone();
+    state.maps = Guarded::new(&after.maps);
+    state.owners = Guarded::new(&after.owners);
+    Vec::new()
+}
+
+fn after_refused_opening(state: &mut State, refusal: Refusal) -> Vec<Range<usize>> {
+    state.session = Session::CLOSED;
+    if refusal.number() > Refusal::BadPermutation.number() {
+        state.maps.fill(UNMAPPED);
+        state.owners.fill(0);
+    }
+    Vec::new()
+}
+
+fn after_find(state: &mut State, found: usize) -> Vec<Range<usize>> {
+    state.found = found;
+    if found > 0 {
+        let slice = state.maps[state.entry()] as usize;
+        let part = &state.device[state.geometry().data(slice, state.offset())];
+        assert_eq!(found, part.len());
+        if let Some(start) = state.buf.get_mut(..part.len()) {
+            start.copy_from_slice(part);
+        }
+    }
+    Vec::new()
+}
+
+fn after_write(state: &mut State, answer: Written, after: &State) -> Vec<Range<usize>> {
+    let geometry = state.geometry();
+    let (entry, slice, offset) = (state.entry(), answer.slice, state.offset());
+    let drawn_from = state.position;
+    let places = if answer.claimed == 1 {
+        assert_eq!(state.maps[entry], UNMAPPED);
+        assert_eq!(state.permutation[answer.probes - 1], slice as u32);
+        state.maps[entry] = slice as u32;
+        state.owners[slice] = state.target.volume as u8 + 1;
+        state.position += geometry.b;
+        vec![geometry.slice(slice)]
+    } else {
+        assert_eq!((answer.claimed, answer.probes), (0, 0));
+        assert_eq!(state.maps[entry], slice as u32);
+        state.position += IV;
+        vec![geometry.iv(slice, offset), geometry.data(slice, offset)]
+    };
+    // The first place begins with the IVs.
+    let start = places[0].start;
+    let drawn = &state.tape[drawn_from..state.position];
+    assert_eq!(after.device[start..start + drawn.len()], *drawn, "IVs");
+    places
+}
+
+fn after_close(state: &mut State, after: &State) -> Vec<Range<usize>> {
+    let geometry = state.geometry();
+    let mut places = Vec::new();
+    for volume in 0..=state.session.k {
+        for block in after.device[geometry.maps(volume)].chunks(geometry.b) {
+            let drawn = &state.tape[state.position..state.position + IV];
+            assert_eq!(block[..IV], *drawn, "IV of a map block");
+            state.position += IV;
+        }
+        places.push(geometry.maps(volume));
+    }
+    state.maps.fill(UNMAPPED);
+    state.owners.fill(0);
+    state.session.keys = [0; KEYS];
+    state.session.open = 0;
+    places
+}
+
+/// Opens, which must be served, and tests the session and the tables by what the stick was built
+/// from.
+pub fn open_and_check(state: &mut State, stick: &Stick, k: usize) {
+    assert_eq!(run(Open, state), SERVED);
+    let Geometry { b, s, p } = stick.geometry;
+    let mut maps = vec![UNMAPPED; VOLUMES * p];
+    let mut owners = vec![0; p];
+    let mut session = Session {
+        b,
+        s,
+        p,
+        k,
+        open: 1,
+        ..Session::CLOSED
+    };
+    for (i, volume) in stick.volumes[..=k].iter().enumerate() {
+        maps[i * p..(i + 1) * p].copy_from_slice(&volume.map);
+        for &slice in volume.map.iter().filter(|&&entry| entry != UNMAPPED) {
+            owners[slice as usize] = i as u8 + 1;
+        }
+        session.keys[32 * i..32 * (i + 1)].copy_from_slice(&volume.vek);
+    }
+    assert_eq!(state.session, session);
+    assert!(state.maps[..] == maps && state.owners[..] == owners);
+}
