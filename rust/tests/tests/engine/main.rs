@@ -5,7 +5,9 @@
 
 mod cases;
 mod faults;
+mod finding;
 mod opening;
+mod records;
 mod refusals;
 mod requests;
 mod scenarios;

@@ -1,0 +1,220 @@
+//! The structs as bytes: wrong sizes, and what a call leaves of a session.
+
+use hiwalgam::sys::{SESSION_BYTES, WRITTEN_BYTES};
+use hiwalgam::Refusal::{NotOpen, WrongLength};
+use hiwalgam_tests::adapters::c_functions::{self, Record};
+use hiwalgam_tests::inputs::{Guarded, Random};
+use hiwalgam_tests::interface::{Answer, Tables, Tape, SERVED};
+
+use crate::faults::with_faults;
+use crate::requests::{spoil, CLOSED};
+use crate::state::Call::{self, *};
+use crate::state::{any_session, State, CALLS};
+
+/// The structs of a call. A call uses only those that it has.
+#[derive(Clone, PartialEq)]
+struct Records {
+    geometry: Record,
+    session: Record,
+    written: Record,
+}
+
+impl Records {
+    fn of(state: &State) -> Self {
+        Records {
+            geometry: Record::geometry(state.numbers),
+            session: Record::session(&state.session),
+            written: Record::blank(WRITTEN_BYTES),
+        }
+    }
+
+    /// Makes the call with these structs instead of what `state` has.
+    fn call(&mut self, call: Call, state: &mut State) -> Answer {
+        let (device, session) = (&mut state.device, &mut self.session);
+        let mut tables = Tables {
+            maps: &mut state.maps,
+            owners: &mut state.owners,
+        };
+        let mut tape = Tape {
+            bytes: &state.tape,
+            position: state.position,
+        };
+        let (tables, tape) = (&mut tables, &mut tape);
+        let (order, target, buf) = (&state.permutation, state.target, &mut state.buf);
+        let answer = match call {
+            Open => c_functions::open(device, &self.geometry, &state.key, tables, order, session),
+            Read => c_functions::read(device, tables, session, target, buf),
+            Find => {
+                state.found = c_functions::find(device, tables, session, target, buf);
+                SERVED
+            }
+            Write => {
+                let (text, written) = (&state.text, &mut self.written);
+                c_functions::write(device, tables, order, tape, session, target, text, written)
+            }
+            Close => c_functions::close(device, tables, tape, session),
+        };
+        state.position = tape.position;
+        answer
+    }
+}
+
+// ---- wrong sizes
+
+type Field = fn(&mut Records) -> &mut Record;
+
+/// The structs that a call has.
+fn fields(call: Call) -> Vec<Field> {
+    let session: Field = |records| &mut records.session;
+    match call {
+        Open => vec![session, |records| &mut records.geometry],
+        Write => vec![session, |records| &mut records.written],
+        Read | Find | Close => vec![session],
+    }
+}
+
+/// A struct with every wrong size that is tried: cut in the same memory, cut together with its
+/// memory, so that size 0 goes with null, and continued.
+fn wrong_sizes(record: &Record) -> Vec<Record> {
+    let bytes = record.bytes();
+    let right = bytes.len();
+    let shorter = [0, 1, 8, right / 2, right - 8, right - 1];
+    let longer = [1, 8, 232, 256, right, 65_536].map(|more| right + more);
+    let cut = shorter.iter().map(|&size| record.cut(size));
+    let short = shorter.iter().map(|&size| Record::new(&bytes[..size]));
+    let long = longer
+        .iter()
+        .map(|&size| Record::new(&Guarded::new(bytes).resized(size)));
+    cut.chain(short).chain(long).collect()
+}
+
+/// Makes a call with structs of which one or more have a wrong size: 13, whatever else is wrong, and
+/// everything stays. A write says that it did nothing, where there is room to say it.
+fn check_wrong(call: Call, state: &State, records: &Records) {
+    let (mut left, mut records_left) = (state.clone(), records.clone());
+    let (mut state, mut records) = (state.clone(), records.clone());
+    let answer = records.call(call, &mut state);
+    if call == Find {
+        left.found = 0;
+    } else {
+        assert_eq!(answer, Err(WrongLength), "{call:?}");
+    }
+    if call == Write && records.written.size() == WRITTEN_BYTES {
+        records_left.written = Record::new(&[0; WRITTEN_BYTES]);
+    }
+    state.assert_same(&left, &format!("{call:?} with a wrong size"));
+    assert!(records == records_left, "{call:?}: a struct changed");
+}
+
+/// Tries each wrong size of each struct of a call.
+fn try_each_size(call: Call, state: &State) {
+    for field in fields(call) {
+        for wrong in wrong_sizes(field(&mut Records::of(state))) {
+            let mut records = Records::of(state);
+            *field(&mut records) = wrong;
+            check_wrong(call, state, &records);
+        }
+    }
+}
+
+/// Tries a wrong size of some of the structs of a call, at least of one.
+fn try_some_size(random: &mut Random, call: Call, state: &State) {
+    let mut records = Records::of(state);
+    let fields = fields(call);
+    let wrong = 1 + random.below((1 << fields.len()) - 1);
+    for (i, field) in fields.iter().enumerate() {
+        if wrong >> i & 1 == 1 {
+            let record = field(&mut records);
+            *record = random.pick(&wrong_sizes(record));
+        }
+    }
+    check_wrong(call, state, &records);
+}
+
+#[test]
+fn wrong_sizes_before_all_refusals() {
+    for call in CALLS {
+        with_faults(call, |random, base, faults| {
+            // Owners that a call which clears them would change.
+            let mut base = base.clone();
+            random.fill(&mut base.owners);
+            base.found = usize::MAX;
+            try_each_size(call, &base);
+            for fault in &faults.0 {
+                let mut state = base.clone();
+                fault.put(&mut state);
+                for _ in 0..4 {
+                    try_some_size(random, call, &state);
+                }
+            }
+        });
+    }
+}
+
+// ---- the bytes of a session
+
+/// Makes a call and tests what it leaves of the session.
+fn check_session(call: Call, state: &mut State) -> Answer {
+    let mut records = Records::of(state);
+    let before = records.session.clone();
+    let answer = records.call(call, state);
+    let left = match (call, answer) {
+        (Open, Err(_)) => Record::new(&[0; SESSION_BYTES]),
+        (Open, Ok(())) => opened_at_1(state.numbers, &records.session),
+        // Geometry and volume stay.
+        (Close, Ok(())) => Record::new(&[&before.bytes()[..32], &[0; SESSION_BYTES - 32]].concat()),
+        (Read | Find | Write | Close, _) => before,
+    };
+    assert!(
+        records.session == left,
+        "session after {call:?}, {answer:?}"
+    );
+    answer
+}
+
+/// The session of an opening at volume 1: geometry, volume, 1 for open, the keys of the volumes 0
+/// and 1, which follow from the device, and zeros.
+fn opened_at_1([b, s, p]: [usize; 3], session: &Record) -> Record {
+    let numbers = [b, s, p, 1, 1].map(usize::to_le_bytes);
+    let keys = &session.bytes()[40..104];
+    Record::new(&[numbers.as_flattened(), keys, &[0; 416]].concat())
+}
+
+#[test]
+fn sessions_after_each_call() {
+    for call in CALLS {
+        with_faults(call, |random, base, faults| {
+            assert_eq!(check_session(call, &mut base.clone()), SERVED);
+            for fault in &faults.0 {
+                let mut state = base.clone();
+                fault.put(&mut state);
+                let answer = check_session(call, &mut state);
+                assert!(call == Find || answer == Err(fault.refusal), "{call:?}");
+            }
+            // Several faults of any kind.
+            for _ in 0..200 {
+                let mut state = base.clone();
+                for _ in 0..1 + random.below(3) {
+                    spoil(random, &mut state);
+                }
+                let _answer = check_session(call, &mut state);
+            }
+        });
+    }
+}
+
+/// A session whose bytes are random is handed back as it is, under every number for closed.
+#[test]
+fn any_session_stays() {
+    for call in [Read, Find, Write, Close] {
+        with_faults(call, |random, base, _| {
+            for open in CLOSED {
+                let mut state = base.clone();
+                state.session = any_session(random);
+                state.session.open = open;
+                let answer = check_session(call, &mut state);
+                assert!(answer == Err(NotOpen) || call == Find && state.found == 0);
+            }
+        });
+    }
+}
