@@ -1,0 +1,122 @@
+//! What the crate `hiwalgam` adds to the C functions: its types, and how they are printed and turned
+//! into one another.
+
+use std::error::Error;
+
+use hiwalgam::{sys, Block, Geometry, Refusal, Session, Tables, Tape, WriteRefused};
+
+const GEOMETRY: Geometry = Geometry {
+    block_bytes: 1024,
+    slice_blocks: 4,
+    slices: 4,
+};
+
+/// An open session on no device that ever was, with keys of bytes 171.
+fn session() -> Session {
+    Session::from_record(sys::Session {
+        geometry: GEOMETRY,
+        volume: 1,
+        open: 1,
+        keys: [171; 480],
+    })
+}
+
+#[test]
+fn numbers_of_refusals() {
+    for number in 0..=255 {
+        match Refusal::from_number(number) {
+            Some(refusal) => assert_eq!(refusal.number(), number),
+            None => assert!(![1..=15, 20..=22].iter().any(|some| some.contains(&number))),
+        }
+    }
+    for refusal in Refusal::ALL {
+        assert_eq!(Refusal::from_number(refusal.number()), Some(refusal));
+        let text = refusal.to_string();
+        assert!(
+            text.ends_with(&format!(" (refusal {})", refusal.number())),
+            "{text}"
+        );
+    }
+}
+
+#[test]
+fn debug_shows_no_keys() {
+    let session = session();
+    let tape = [171; 100];
+    let tape = Tape::new(&tape);
+    for text in [
+        format!("{session:?}"),
+        format!("{session:#?}"),
+        format!("{:?}", session.record()),
+        format!("{:#?}", session.record()),
+        format!("{tape:?}"),
+    ] {
+        assert!(!text.contains("171") && !text.contains("ab"), "{text}");
+        assert!(
+            text.contains("Session") || text.contains("length: 100"),
+            "{text}"
+        );
+    }
+}
+
+#[test]
+fn a_record_passes_through() {
+    let session = session();
+    assert_eq!(session.record().keys, [171; 480]);
+    assert_eq!((session.geometry(), session.volume()), (GEOMETRY, 1));
+    assert!(session.is_open());
+    for open in [0, 2, u64::MAX] {
+        let record = sys::Session {
+            open,
+            ..session.record().clone()
+        };
+        let session = Session::from_record(record.clone());
+        assert!(!session.is_open() && *session.record() == record);
+    }
+}
+
+/// Tables of the lengths that the engine asks for, and some for every other geometry.
+#[test]
+fn tables_for_any_geometry() {
+    for slices in [0, 1, 4, 253, 4096, 4097, 1 << 32, u64::MAX] {
+        let geometry = Geometry { slices, ..GEOMETRY };
+        let mut tables = Tables::new(geometry);
+        assert_eq!(tables.maps.len(), 15 * tables.owners.len());
+        let blocks = 1 + 15 * (1 + slices.min(4096).div_ceil(252)) + slices.min(4096) * 5;
+        let device = vec![0; 1024 * blocks as usize];
+        let permutation: Vec<u32> = (0..slices.min(4096) as u32).collect();
+        let opened = Session::open(&device, geometry, &[0; 32], &mut tables, &permutation);
+        let refusal = match slices {
+            1..=4096 => Refusal::NoCell,
+            _ => Refusal::BadGeometry,
+        };
+        assert_eq!(opened, Err(refusal), "P {slices}");
+    }
+}
+
+/// A refused write as either kind of error that a program may use.
+#[test]
+fn refusals_are_errors() {
+    fn write(session: &mut Session) -> Result<(), WriteRefused> {
+        let (mut tables, block) = (
+            Tables::new(GEOMETRY),
+            Block {
+                volume: 0,
+                address: 0,
+            },
+        );
+        session.write(&mut [], &mut tables, &[], &mut Tape::new(&[]), block, &[])?;
+        Ok(())
+    }
+    fn by_refusal() -> Result<(), Refusal> {
+        Ok(write(&mut session())?)
+    }
+    fn by_any() -> Result<(), Box<dyn Error>> {
+        Ok(write(&mut session())?)
+    }
+    let (refusal, probes) = (Refusal::DeviceLength, 0);
+    assert_eq!(write(&mut session()), Err(WriteRefused { refusal, probes }));
+    assert_eq!(by_refusal(), Err(refusal));
+    let text = by_any().unwrap_err().to_string();
+    assert_eq!(text, format!("{refusal}, after 0 probes"));
+}
