@@ -5,7 +5,7 @@ use std::env;
 use std::path::{Path, PathBuf};
 
 const ADVICE: &str =
-    "build it with `rt staticlib hiwalgam`, or set HIWALGAM_LIB to the absolute path of its folder";
+    "build it with `tools/library`, or set HIWALGAM_LIB to the absolute path of its folder";
 
 fn main() {
     println!("cargo:rerun-if-env-changed=HIWALGAM_LIB");
@@ -20,7 +20,7 @@ fn main() {
     println!("cargo:rustc-link-lib=static=hiwalgam");
 }
 
-/// The folder in which `rt staticlib` leaves the archive.
+/// The folder in which `tools/library` leaves the archive.
 fn built_folder() -> PathBuf {
     let package = env::var_os("CARGO_MANIFEST_DIR").expect("cargo sets CARGO_MANIFEST_DIR");
     let repository = Path::new(&package).ancestors().nth(2);
