@@ -10,15 +10,16 @@
  *
  * What the caller has to keep to, everywhere:
  *
- * - Each pointer is followed by a length: of a list the number of its elements, of a struct its sizeof.
- *   The pointer is valid for that length, and what is not const may be written.
+ * - Each pointer but that to the tape position is followed by a length: of a list the number of its
+ *   elements, of a struct its sizeof. The pointer is valid for that length, and what is not const may be
+ *   written.
  * - uint32_t and size_t are aligned as the ABI says. Bytes and structs may stand anywhere.
  * - NULL may be passed with length 0. The position of the tape is never NULL.
  * - The buffers of one call do not overlap, but for those that are const.
  * - One session at a time: from an opening to its close nothing but these calls alters device, tables,
  *   tape position and session. Tape bytes are random, and none is used for two calls.
  * - The platform is x86-64 Linux: 64-bit size_t, numbers with the least significant byte first. A call
- *   takes up to 64 KiB of stack.
+ *   takes up to 16 KiB of stack.
  *
  * Link with libhiwalgam.a, which needs nothing but memcpy and memset of the C library.
  */
@@ -146,7 +147,8 @@ uint8_t hiwalgam_read(const uint8_t *device, size_t device_length,
 
 /*
  * Finds the ciphertext of a block: returns its length, B, or 0 where the block has no slice or a read of it
- * would be refused. It is copied to the start of out where out has room for it; the rest of out stays.
+ * with a right buffer would be refused. It is copied to the start of out where out has room for it; the
+ * rest of out stays.
  */
 size_t hiwalgam_find(const uint8_t *device, size_t device_length,
                      const uint32_t *maps, size_t maps_length,

@@ -64,7 +64,7 @@
 //! - **Wiped memory.** A close sets the keys of its session to zeros. Copies that were made by moving
 //!   the session, and what a call leaves on the stack, stay.
 //!
-//! The platform is x86-64 Linux, and a call takes up to 64 KiB of stack.
+//! The platform is x86-64 Linux, and a call takes up to 16 KiB of stack.
 
 #![deny(missing_docs)]
 #![deny(unsafe_op_in_unsafe_fn)]

@@ -103,7 +103,7 @@ fn length_in_64_bits() {
     }
 }
 
-/// The header promises that a call takes up to 64 KiB of stack.
+/// A thread with a small stack has room for every call: the header promises that 16 KiB are enough.
 #[test]
 fn stack_of_a_call() {
     let mut random = Random::seeded();
