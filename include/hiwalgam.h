@@ -1,25 +1,27 @@
 /*
  * Hiwalgam: the proved engine of an encrypted memory stick with up to 15 nested volumes.
  *
- * A device is the image of a stick, held in memory. A key opens a volume and all volumes below it;
- * what lies above is noise. docs/FORMAT.md describes the device, the calls and their refusals.
+ * A device is the image of a stick, held in memory. A key opens a volume and all volumes below it; what
+ * lies above is noise. docs/FORMAT.md describes the device, the calls and their refusals. No function here
+ * makes a device, reads it from a stick or stores it there: that is the caller's.
  *
- * Every function takes any arguments and returns HIWALGAM_SERVED or the first refusal that applies.
- * A refused call changes nothing that it was lent, but for the session and the tables of an opening and
- * the answer of a write, as said there. No function keeps anything between two calls.
+ * Every function takes any arguments and returns HIWALGAM_SERVED or the first refusal that applies, in the
+ * order in which its comment lists them. A refused call changes nothing that it was lent, but for the tables
+ * and the session of an opening and the answer of a write, as said there. No function keeps anything
+ * between two calls.
  *
  * What the caller has to keep to, everywhere:
  *
- * - Each pointer but that to the tape position is followed by a length: of a list the number of its
- *   elements, of a struct its sizeof. The pointer is valid for that length, and what is not const may be
- *   written.
- * - uint32_t and size_t are aligned as the ABI says. Bytes and structs may stand anywhere.
- * - NULL may be passed with length 0. The position of the tape is never NULL.
+ * - Each pointer but that to the tape position is followed by a length: of a list the number of its elements
+ *   (not of its bytes), of a struct its sizeof. The pointer is valid for that length, and what is not const
+ *   may be written. What a call sets needs no value before it.
+ * - uint32_t and size_t are aligned as the ABI says. Of bytes and structs no alignment is asked.
+ * - NULL may be passed with length 0, which is then judged as any other length. The tape position is never NULL.
  * - The buffers of one call do not overlap, but for those that are const.
- * - One session at a time: from an opening to its close nothing but these calls alters device, tables,
- *   tape position and session. Tape bytes are random, and none is used for two calls.
- * - The platform is x86-64 Linux: 64-bit size_t, numbers with the least significant byte first. A call
- *   takes up to 16 KiB of stack.
+ * - One session at a time: from an opening to its close nothing but these calls alters device, tables, tape
+ *   position and session. Tape bytes are random, and none is used twice.
+ * - The platform is x86-64 Linux: 64-bit size_t, numbers with the least significant byte first. A call takes
+ *   up to 16 KiB of stack.
  *
  * Link with libhiwalgam.a, which needs nothing but memcpy and memset of the C library.
  */
@@ -36,27 +38,27 @@ extern "C" {
 /* What a call answers. */
 enum hiwalgam_answer {
     HIWALGAM_SERVED = 0,
-    HIWALGAM_BAD_GEOMETRY = 1,    /* the size of blocks, the blocks in a slice or the number of slices is not allowed */
-    HIWALGAM_DEVICE_LENGTH = 2,   /* the device is not as long as the geometry says */
+    HIWALGAM_BAD_GEOMETRY = 1,    /* B, S or P is not allowed */
+    HIWALGAM_DEVICE_LENGTH = 2,   /* the device is not as long as its geometry says */
     HIWALGAM_KEY_LENGTH = 3,      /* the key is not 32 bytes */
-    HIWALGAM_TABLE_LENGTH = 4,    /* the map table has not 15 entries for each slice, or the owner table not one */
+    HIWALGAM_TABLE_LENGTH = 4,    /* the map table has not 15 x P entries, or the owner table not P */
     HIWALGAM_BAD_PERMUTATION = 5, /* the permutation does not name each slice once */
     HIWALGAM_NO_CELL = 6,         /* the key opens no key cell */
     HIWALGAM_HEADER_TAG = 7,      /* the tag of a header that is needed is wrong */
     HIWALGAM_HEADER_GEOMETRY = 8, /* a header was made for another geometry */
-    HIWALGAM_BAD_ENTRY = 9,       /* a map entry is neither a slice nor the mark of an unmapped one */
+    HIWALGAM_BAD_ENTRY = 9,       /* a map entry is neither a slice nor HIWALGAM_UNMAPPED */
     HIWALGAM_SLICE_TWICE = 10,    /* a slice is mapped twice */
     HIWALGAM_VOLUME_ABOVE = 11,   /* the volume is above the opened one */
     HIWALGAM_ADDRESS_ABOVE = 12,  /* the block is past the end of the volume */
-    HIWALGAM_WRONG_LENGTH = 13,   /* a buffer, text, IV, tag, associated data or struct is not as long as it has to be */
+    HIWALGAM_WRONG_LENGTH = 13,   /* a buffer, text, IV, tag, associated data or struct has a wrong length */
     HIWALGAM_MALFORMED_LINE = 14, /* of the program slicewalk; no function answers it */
     HIWALGAM_TAG_DIFFERS = 15,    /* the tag is wrong */
     HIWALGAM_NOT_OPEN = 20,       /* the session is closed, or holds numbers that are not allowed */
-    HIWALGAM_TAPE_SHORT = 21,     /* the tape has not as many bytes left as the call needs */
+    HIWALGAM_TAPE_SHORT = 21,     /* the tape has fewer bytes left than the call takes */
     HIWALGAM_NO_FREE_SLICE = 22   /* no slice is free for a claim */
 };
 
-/* Volumes of a stick, and the bytes of a key and of an IV. */
+/* Volumes of a stick, numbered from 0, and the bytes of a key, an IV and a tag. */
 #define HIWALGAM_VOLUMES 15
 #define HIWALGAM_KEY_BYTES 32
 #define HIWALGAM_IV_BYTES 16
@@ -72,7 +74,12 @@ enum hiwalgam_answer {
 #define HIWALGAM_GCM_AAD_LIMIT 16
 #define HIWALGAM_POSITION_LIMIT 1099511627776u
 
-/* How a device is divided: B, S and P. */
+/*
+ * How a device is divided: P slices, which volumes take as they need them, of S data blocks of B bytes.
+ *
+ * Each volume has m map blocks: P / 252 for B 1024 and P / 1020 for B 4096, rounded up. The device has
+ * B x (1 + 15 x (1 + m) + P x (S + 1)) bytes. A volume has P x S blocks, addressed from 0.
+ */
 typedef struct hiwalgam_geometry {
     uint64_t block_bytes;  /* B: 1024 or 4096 */
     uint64_t slice_blocks; /* S: 1 to B / 16 */
@@ -115,15 +122,37 @@ _Static_assert(sizeof(size_t) == 8, "a platform of 64 bits");
 #endif
 
 /*
- * Opens a device with a key: the lowest volume whose cell the key opens, and all below it.
+ * For compilers that can warn: an answer is to be looked at; the list at argument p, whose length is argument
+ * n, is read (IN), set (OUT) or both.
+ */
+#if defined(__GNUC__)
+#define HIWALGAM_ANSWERS __attribute__((warn_unused_result))
+#define HIWALGAM_NOT_NULL(p) __attribute__((nonnull(p)))
+#else
+#define HIWALGAM_ANSWERS
+#define HIWALGAM_NOT_NULL(p)
+#endif
+#if defined(__GNUC__) && __GNUC__ >= 10 && !defined(__clang__)
+#define HIWALGAM_IN(p, n) __attribute__((access(read_only, p, n)))
+#define HIWALGAM_OUT(p, n) __attribute__((access(write_only, p, n)))
+#define HIWALGAM_INOUT(p, n) __attribute__((access(read_write, p, n)))
+#else
+#define HIWALGAM_IN(p, n)
+#define HIWALGAM_OUT(p, n)
+#define HIWALGAM_INOUT(p, n)
+#endif
+
+/*
+ * Opens a device with a key: the lowest volume whose key cell the key opens, and all below it.
  *
- * maps has 15 x P entries, owners P, and permutation P, which name each of the slices 0 to P - 1 once.
- * Entry l of volume v stands at maps[v * P + l]: the slice, or HIWALGAM_UNMAPPED. owners[s] is 0 where slice
- * s is free, and v + 1 where volume v holds it.
+ * Sets maps, which has 15 x P entries, and owners, which has P. Entry l of volume v stands at maps[v * P + l]:
+ * the slice, or HIWALGAM_UNMAPPED. owners[s] is 0 where slice s is free, and v + 1 where volume v holds it.
+ * permutation names each of the slices 0 to P - 1 once, in the order in which claims look for a free one; it is
+ * drawn at random for a session, and nothing has to keep it.
  *
- * Refused by 13 (geometry or session of another size; everything stays), 1, 2, 3, 4, 5 (the tables stay),
- * 6, 7, 8, 9, 10 (entries become HIWALGAM_UNMAPPED, owners 0). A refused opening but the 13 leaves a session
- * that is closed, all zeros.
+ * Refused by 13 (geometry or session of another size: all stays); by 1, 2, 3, 4 or 5, which leave the tables
+ * as they were; by 6, 7, 8, 9 or 10, which set every entry to HIWALGAM_UNMAPPED and every owner to 0. Refused
+ * by 1 to 10 it sets the session to zeros, which is closed.
  */
 uint8_t hiwalgam_open(const uint8_t *device, size_t device_length,
                       const hiwalgam_geometry *geometry, size_t geometry_size,
@@ -131,10 +160,12 @@ uint8_t hiwalgam_open(const uint8_t *device, size_t device_length,
                       uint32_t *maps, size_t maps_length,
                       uint8_t *owners, size_t owners_length,
                       const uint32_t *permutation, size_t permutation_length,
-                      hiwalgam_session *session, size_t session_size);
+                      hiwalgam_session *session, size_t session_size)
+    HIWALGAM_ANSWERS HIWALGAM_IN(1, 2) HIWALGAM_IN(5, 6) HIWALGAM_OUT(7, 8) HIWALGAM_OUT(9, 10) HIWALGAM_IN(11, 12);
 
 /*
- * Reads a block of an open volume into buffer, which has B bytes. A block that was never written is zeros.
+ * Reads a block of an open volume into buffer, which has B bytes. address counts the volume's blocks. A block
+ * that was never written is zeros.
  *
  * Refused by 13 (session of another size), 20, 2, 4, 11, 12, 13 (buffer), 9.
  */
@@ -143,29 +174,33 @@ uint8_t hiwalgam_read(const uint8_t *device, size_t device_length,
                       const uint8_t *owners, size_t owners_length,
                       const hiwalgam_session *session, size_t session_size,
                       uint64_t volume, uint64_t address,
-                      uint8_t *buffer, size_t buffer_length);
+                      uint8_t *buffer, size_t buffer_length)
+    HIWALGAM_ANSWERS HIWALGAM_IN(1, 2) HIWALGAM_IN(3, 4) HIWALGAM_IN(5, 6) HIWALGAM_OUT(11, 12);
 
 /*
  * Finds the ciphertext of a block: returns its length, B, or 0 where the block has no slice or a read of it
  * with a right buffer would be refused. It is copied to the start of out where out has room for it; the
- * rest of out stays.
+ * rest of out stays. NULL and 0 for out ask for the length alone.
  */
 size_t hiwalgam_find(const uint8_t *device, size_t device_length,
                      const uint32_t *maps, size_t maps_length,
                      const uint8_t *owners, size_t owners_length,
                      const hiwalgam_session *session, size_t session_size,
                      uint64_t volume, uint64_t address,
-                     uint8_t *out, size_t out_length);
+                     uint8_t *out, size_t out_length)
+    HIWALGAM_ANSWERS HIWALGAM_IN(1, 2) HIWALGAM_IN(3, 4) HIWALGAM_IN(5, 6) HIWALGAM_OUT(11, 12);
 
 /*
  * Writes a block of an open volume: text has B bytes. Where the block's logical slice has a slice, the block
  * is rewritten there and takes 16 bytes of the tape. Otherwise the first free slice in the order of the
- * permutation is claimed, and takes B bytes of the tape. *position is the next unused byte of the tape.
+ * permutation is claimed, and takes B bytes of the tape. *position is the next unused byte of the tape, and is
+ * moved on. Sets written, and the session where it is served.
  *
  * A claim is on the device, but in its maps only after hiwalgam_close: a session that is not closed loses it.
+ * Keep tape bytes for the close.
  *
  * Refused by 13 (session or written of another size), 20, 2, 4, 5 (length), 11, 12, 13 (text), 9; a claim by
- * 5 (a place that names no slice) or 22; both by 21. written is set, refused or not, unless its size is wrong.
+ * 5 (a place that names no slice) or 22; both by 21. Refused too it sets written, unless that has another size.
  */
 uint8_t hiwalgam_write(uint8_t *device, size_t device_length,
                        uint32_t *maps, size_t maps_length,
@@ -175,19 +210,25 @@ uint8_t hiwalgam_write(uint8_t *device, size_t device_length,
                        hiwalgam_session *session, size_t session_size,
                        uint64_t volume, uint64_t address,
                        const uint8_t *text, size_t text_length,
-                       hiwalgam_written *written, size_t written_size);
+                       hiwalgam_written *written, size_t written_size)
+    HIWALGAM_ANSWERS HIWALGAM_INOUT(1, 2) HIWALGAM_INOUT(3, 4) HIWALGAM_INOUT(5, 6) HIWALGAM_IN(7, 8)
+    HIWALGAM_IN(9, 10) HIWALGAM_NOT_NULL(11) HIWALGAM_IN(16, 17);
 
 /*
  * Closes a session: the maps of the open volumes go to the device, with 16 bytes of the tape for each map
- * block; then every entry is HIWALGAM_UNMAPPED, every owner 0, and the session closed, its keys zeros.
+ * block, 16 x m x (k + 1) in all; then every entry is HIWALGAM_UNMAPPED, every owner 0, and the session
+ * closed, its keys zeros. The device is then to be stored.
  *
- * Refused by 13 (session of another size), 20, 2, 4, 9, 21.
+ * Refused by 13 (session of another size), 20, 2, 4, 9, 21. The session is still open after a 21, and can be
+ * closed with more tape.
  */
 uint8_t hiwalgam_close(uint8_t *device, size_t device_length,
                        uint32_t *maps, size_t maps_length,
                        uint8_t *owners, size_t owners_length,
                        const uint8_t *tape, size_t tape_length, size_t *position,
-                       hiwalgam_session *session, size_t session_size);
+                       hiwalgam_session *session, size_t session_size)
+    HIWALGAM_ANSWERS HIWALGAM_INOUT(1, 2) HIWALGAM_INOUT(3, 4) HIWALGAM_INOUT(5, 6) HIWALGAM_IN(7, 8)
+    HIWALGAM_NOT_NULL(9);
 
 /*
  * AES-256 in counter mode (SP 800-38A): key 32 bytes, IV 16, text 0 to 4,096, out as long as the text.
@@ -196,7 +237,8 @@ uint8_t hiwalgam_close(uint8_t *device, size_t device_length,
 uint8_t hiwalgam_counter_mode(const uint8_t *key, size_t key_length,
                               const uint8_t *iv, size_t iv_length,
                               const uint8_t *text, size_t text_length,
-                              uint8_t *out, size_t out_length);
+                              uint8_t *out, size_t out_length)
+    HIWALGAM_ANSWERS HIWALGAM_IN(1, 2) HIWALGAM_IN(3, 4) HIWALGAM_IN(5, 6) HIWALGAM_OUT(7, 8);
 
 /*
  * The same for a text that begins at byte `position` of a longer one, at most HIWALGAM_POSITION_LIMIT.
@@ -206,7 +248,8 @@ uint8_t hiwalgam_keystream_at(const uint8_t *key, size_t key_length,
                               const uint8_t *iv, size_t iv_length,
                               uint64_t position,
                               const uint8_t *text, size_t text_length,
-                              uint8_t *out, size_t out_length);
+                              uint8_t *out, size_t out_length)
+    HIWALGAM_ANSWERS HIWALGAM_IN(1, 2) HIWALGAM_IN(3, 4) HIWALGAM_IN(6, 7) HIWALGAM_OUT(8, 9);
 
 /*
  * AES-256-GCM (SP 800-38D): key 32 bytes, IV 12, associated data 0 to 16, text 0 to 256, out as long as the
@@ -217,7 +260,9 @@ uint8_t hiwalgam_gcm_seal(const uint8_t *key, size_t key_length,
                           const uint8_t *aad, size_t aad_length,
                           const uint8_t *text, size_t text_length,
                           uint8_t *out, size_t out_length,
-                          uint8_t *tag, size_t tag_length);
+                          uint8_t *tag, size_t tag_length)
+    HIWALGAM_ANSWERS HIWALGAM_IN(1, 2) HIWALGAM_IN(3, 4) HIWALGAM_IN(5, 6) HIWALGAM_IN(7, 8) HIWALGAM_OUT(9, 10)
+    HIWALGAM_OUT(11, 12);
 
 /*
  * Its opening, with the same lengths. Refused by 3, 13, and by 15 where the tag is wrong: out stays then.
@@ -227,7 +272,9 @@ uint8_t hiwalgam_gcm_open(const uint8_t *key, size_t key_length,
                           const uint8_t *aad, size_t aad_length,
                           const uint8_t *text, size_t text_length,
                           const uint8_t *tag, size_t tag_length,
-                          uint8_t *out, size_t out_length);
+                          uint8_t *out, size_t out_length)
+    HIWALGAM_ANSWERS HIWALGAM_IN(1, 2) HIWALGAM_IN(3, 4) HIWALGAM_IN(5, 6) HIWALGAM_IN(7, 8) HIWALGAM_IN(9, 10)
+    HIWALGAM_OUT(11, 12);
 
 #ifdef __cplusplus
 }

@@ -99,6 +99,7 @@ fn constants_are_the_headers() {
         .lines()
         .filter_map(|line| line.strip_prefix("#define HIWALGAM_"));
     let defines = defines.filter_map(|line| line.split_once(' '));
+    let defines = defines.filter(|(_, value)| value.starts_with(|c: char| c.is_ascii_digit()));
     let defines: BTreeMap<&str, u64> = defines.map(|(name, n)| (name, number(n))).collect();
 
     let declared = declarations();
@@ -154,25 +155,29 @@ fn items(list: &str) -> Vec<String> {
 /// The functions by their names: parameters, and last what they return.
 type Functions = BTreeMap<String, Vec<String>>;
 
-fn header_functions() -> Functions {
+/// The functions of the header, and what stands behind the parameters of each.
+fn header_functions() -> (Functions, BTreeMap<String, String>) {
     let header = header();
-    let mut functions = Functions::new();
+    let (mut functions, mut attributes) = (Functions::new(), BTreeMap::new());
     for statement in header.split([';', '{', '}']) {
         let statement = statement.lines().filter(|line| !line.starts_with('#'));
         let statement = statement.collect::<Vec<&str>>().join(" ");
-        let Some((start, parameters)) = statement.split_once('(') else {
+        let Some((start, rest)) = statement.split_once('(') else {
             continue;
         };
         // An assertion of a size has one word before its parenthesis.
         let Some((returned, name)) = start.trim().rsplit_once(' ') else {
             continue;
         };
-        let mut parts: Vec<String> = items(parameters.trim_end_matches([')', ' ']));
+        let (parameters, rest) = rest.split_once(')').unwrap();
+        let mut parts: Vec<String> = items(parameters);
         parts = parts.iter().map(|part| rust_item(part)).collect();
         parts.push(rust_type(returned.trim()));
         functions.insert(name.to_string(), parts);
+        let words: Vec<&str> = rest.split_whitespace().collect();
+        attributes.insert(name.to_string(), words.join(" "));
     }
-    functions
+    (functions, attributes)
 }
 
 fn declared_functions() -> Functions {
@@ -190,9 +195,39 @@ fn declared_functions() -> Functions {
 
 #[test]
 fn functions_are_the_headers() {
-    let functions = header_functions();
+    let (functions, _) = header_functions();
     assert_eq!(functions.len(), 9);
     assert_eq!(declared_functions(), functions);
+}
+
+/// The attribute that a parameter asks for, by its number: a list goes with the length behind it.
+/// Write and close also read what they are lent to be written.
+fn attribute(function: &str, number: usize, parameter: &str) -> Option<String> {
+    let (_, of) = parameter.split_once(": ")?;
+    let reads = ["hiwalgam_write", "hiwalgam_close"].contains(&function);
+    let word = match of {
+        "*const u8" | "*const u32" => "IN",
+        "*mut u8" | "*mut u32" if reads => "INOUT",
+        "*mut u8" | "*mut u32" => "OUT",
+        "*mut usize" => return Some(format!("HIWALGAM_NOT_NULL({number})")),
+        _ => return None,
+    };
+    Some(format!("HIWALGAM_{word}({number}, {})", number + 1))
+}
+
+#[test]
+fn attributes_go_with_the_parameters() {
+    let (functions, attributes) = header_functions();
+    for (name, parts) in &functions {
+        let asked = (1..)
+            .zip(parts)
+            .filter_map(|(n, part)| attribute(name, n, part));
+        let asked: Vec<String> = ["HIWALGAM_ANSWERS".to_string()]
+            .into_iter()
+            .chain(asked)
+            .collect();
+        assert_eq!(attributes[name], asked.join(" "), "{name}");
+    }
 }
 
 /// The fields of a struct. The length of an array is left to the sizes, which are compared beside.
