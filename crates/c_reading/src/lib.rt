@@ -1,6 +1,6 @@
 // The C functions that leave everything as it is but for a buffer, for libhiwalgam.a (include/hiwalgam.h): read and find.
 //
-// Arguments are those of `c_ciphers`. The structs of the header are lent as their bytes; crate `records` reads and writes them.
+// Arguments pass as in `c_ciphers`. The structs of the header are lent as their bytes, which crate `records` reads and writes.
 // A session of another size than the header's is 13 before everything else, and finds nothing.
 ghost use mathlib.Core.Path.{_≡_};
 ghost use lib.ListN.{length};

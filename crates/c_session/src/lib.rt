@@ -1,6 +1,6 @@
 // The C functions that make, use up and end a session, for libhiwalgam.a (include/hiwalgam.h): open, write and close.
 //
-// Arguments are those of `c_ciphers`. The structs of the header are lent as their bytes; crate `records` reads and writes them.
+// Arguments pass as in `c_ciphers`. The structs of the header are lent as their bytes, which crate `records` reads and writes.
 // A struct of another size than the header's is 13 before everything else, and then all that was lent stays; but the answer of a
 // write is told where its own struct has its size.
 ghost use mathlib.Core.Path.{_≡_};

@@ -1,5 +1,5 @@
 -- Laws of the structs: how long they are, that they read back, and how code puts them together. Assumes nothing.
-use mathlib.Core.Path.{_≡_, refl, sym, ap, ap₂, _∙_}
+use mathlib.Core.Path.{_≡_, refl, sym, ap, ap₂, _∙_, subst}
 use mathlib.Core.Bool.{Bool, true, false}
 use mathlib.Core.List.{List, [], _++_, append-nil}
 use Prim.Native.Nat.{ℕ, _+_, _^_, _<_}
@@ -13,7 +13,7 @@ use Rattle.model.proofs.Parts.{part-first, part-next, part-last, part-left, par
 use Rattle.places.proofs.Parts.{overlay-append, overlay-all}
 use Rattle.records.specs.Numbers.{eightAt, eightBytes, threeBytes, littleNumber}
 use Rattle.records.specs.Structs.{bitOf, geometryIn, geometryBytes, sessionIn, sessionBytes}
-use Rattle.records.specs.Theorems.{Numbers64}
+use Rattle.records.specs.Theorems.{Numbers64, SessionFields, Fields}
 use Rattle.records.proofs.Numbers.{littleEndian-length, littleNumber-littleEndian}
 
 -- ---- lengths
@@ -68,17 +68,47 @@ module _ (x y z : ℕ) (rest : List ℕ) where
       ∙ part-right (eightBytes x) (eightBytes y ++ eightBytes z) 8 (eightBytes-length x) 8 8
       ∙ part-last (eightBytes y) (eightBytes z) 8 8 (eightBytes-length y) (eightBytes-length z)
 
--- A geometry that stands before anything reads back.
-geometry-before : (g : Geometry) (rest : List ℕ) → Numbers64 g → geometryIn (geometryBytes g ++ rest) ≡ g
-geometry-before g rest n =
-    let r = geometryBytes g ++ rest in
-    let e₀ = eight-again 0 (g .b) r (first-part (g .b) (g .s) (g .p) rest) (n .b-fits) in
-    let e₁ = eight-again 8 (g .s) r (second-part (g .b) (g .s) (g .p) rest) (n .s-fits) in
-    let e₂ = eight-again 16 (g .p) r (third-part (g .b) (g .s) (g .p) rest) (n .p-fits) in
-    rw (e₀, e₁, e₂) refl
+-- Three numbers that stand before anything, and alone.
+three-before : (x y z : ℕ) (rest : List ℕ) → x < 2 ^ 64 → y < 2 ^ 64 → z < 2 ^ 64 → Fields x y z (threeBytes x y z ++ rest)
+three-before x y z rest hx hy hz =
+    record {
+      first = eight-again 0 x (threeBytes x y z ++ rest) (first-part x y z rest) hx;
+      second = eight-again 8 y (threeBytes x y z ++ rest) (second-part x y z rest) hy;
+      third = eight-again 16 z (threeBytes x y z ++ rest) (third-part x y z rest) hz;
+    }
+
+pub three-fields : (x y z : ℕ) → x < 2 ^ 64 → y < 2 ^ 64 → z < 2 ^ 64 → Fields x y z (threeBytes x y z)
+three-fields x y z hx hy hz = subst (Fields x y z) (append-nil (threeBytes x y z)) (three-before x y z [] hx hy hz)
+
+pub geometry-fields : (g : Geometry) → Numbers64 g → Fields (g .b) (g .s) (g .p) (geometryBytes g)
+geometry-fields g n = three-fields (g .b) (g .s) (g .p) (n .b-fits) (n .s-fits) (n .p-fits)
 
 pub geometry-again : (g : Geometry) → Numbers64 g → geometryIn (geometryBytes g) ≡ g
-geometry-again g n = ap geometryIn (sym (append-nil (geometryBytes g))) ∙ geometry-before g [] n
+geometry-again g n = let f = geometry-fields g n in rw (f .first, f .second, f .third) refl
+
+pub session-fields : (s : Session) → Numbers64 (s .geometry) → s .k < 2 ^ 64 → length (s .keys) ≡ 480 → SessionFields s (sessionBytes s)
+session-fields s n h e =
+    let g = s .geometry in
+    let first = geometryBytes g in
+    let k = eightBytes (s .k) in
+    let opened = eightBytes (bitOf (s .opened)) in
+    let long = threeBytes-length (g .b) (g .s) (g .p) in
+    let tail = eightBytes-length (bitOf (s .opened)) in
+    let numbers = three-before (g .b) (g .s) (g .p) (k ++ (opened ++ s .keys)) (n .b-fits) (n .s-fits) (n .p-fits) in
+    let at-k : part 24 8 (sessionBytes s) ≡ k = part-next first k (opened ++ s .keys) 24 8 long (eightBytes-length (s .k)) in
+    let at-opened : part 32 8 (sessionBytes s) ≡ opened =
+    part-right first (k ++ (opened ++ s .keys)) 24 long 8 8 ∙ part-next k opened (s .keys) 8 8 (eightBytes-length (s .k)) tail in
+    record {
+      block-bytes = numbers .first;
+      slice-blocks = numbers .second;
+      slices = numbers .third;
+      volume = eight-again 24 (s .k) (sessionBytes s) at-k h;
+      is-open = eight-again 32 (bitOf (s .opened)) (sessionBytes s) at-opened (bit-small (s .opened));
+      data-keys =
+          part-right first (k ++ (opened ++ s .keys)) 24 long 16 480
+          ∙ part-right k (opened ++ s .keys) 8 (eightBytes-length (s .k)) 8 480
+          ∙ part-last opened (s .keys) 8 480 tail e;
+    }
 
 -- 1 is read as true and 0 as false.
 bit-again : (b : Bool) → eqb (bitOf b) 1 ≡ b
@@ -87,24 +117,9 @@ bit-again false = refl
 
 pub session-again : (s : Session) → Numbers64 (s .geometry) → s .k < 2 ^ 64 → length (s .keys) ≡ 480 → sessionIn (sessionBytes s) ≡ s
 session-again s n h e =
-    let g = s .geometry in
-    let first = geometryBytes g in
-    let k = eightBytes (s .k) in
-    let opened = eightBytes (bitOf (s .opened)) in
-    let long = threeBytes-length (g .b) (g .s) (g .p) in
-    let tail = eightBytes-length (bitOf (s .opened)) in
-    let at-k : part 24 8 (sessionBytes s) ≡ k = part-next first k (opened ++ s .keys) 24 8 long (eightBytes-length (s .k)) in
-    let at-opened : part 32 8 (sessionBytes s) ≡ opened =
-    part-right first (k ++ (opened ++ s .keys)) 24 long 8 8 ∙ part-next k opened (s .keys) 8 8 (eightBytes-length (s .k)) tail in
-    let at-keys : part 40 480 (sessionBytes s) ≡ s .keys =
-    part-right first (k ++ (opened ++ s .keys)) 24 long 16 480
-    ∙ part-right k (opened ++ s .keys) 8 (eightBytes-length (s .k)) 8 480
-    ∙ part-last opened (s .keys) 8 480 tail e in
-    let g-again = geometry-before g (k ++ (opened ++ s .keys)) n in
-    let k-again = eight-again 24 (s .k) (sessionBytes s) at-k h in
-    let opened-again =
-    ap (λ (x : ℕ). eqb x 1) (eight-again 32 (bitOf (s .opened)) (sessionBytes s) at-opened (bit-small (s .opened))) ∙ bit-again (s .opened) in
-    rw (g-again, k-again, at-keys, opened-again) refl
+    let f = session-fields s n h e in
+    let opened = ap (λ (x : ℕ). eqb x 1) (f .is-open) ∙ bit-again (s .opened) in
+    rw (f .block-bytes, f .slice-blocks, f .slices, f .volume, f .data-keys, opened) refl
 
 -- ---- putting together
 

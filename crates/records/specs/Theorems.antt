@@ -1,11 +1,15 @@
 -- What is proved of the layout of the structs. Assumes nothing.
 use Prim.Native.Nat.{ℕ, _^_, _<_}
 use mathlib.Core.Path.{_≡_}
+use mathlib.Core.List.{List}
 use lib.ListN.{length}
 use Rattle.model.specs.declared.Geometry.{Geometry}
 use Rattle.model.specs.declared.Session.{Session}
-use Rattle.records.specs.Numbers.{threeBytes}
-use Rattle.records.specs.Structs.{geometryIn, geometryBytes, sessionIn, sessionBytes}
+use Rattle.model.specs.declared.Change.the-variants.{Claimed, Rewritten}
+use Rattle.model.specs.Parts.{part}
+use Rattle.model.specs.Write.{WriteResult}
+use Rattle.records.specs.Numbers.{eightAt, threeBytes}
+use Rattle.records.specs.Structs.{bitOf, geometryIn, geometryBytes, sessionIn, sessionBytes, writtenBytes}
 
 -- The numbers of a geometry are of 64 bits.
 pub record Numbers64 (g : Geometry) : Type 0 where
@@ -13,9 +17,30 @@ pub record Numbers64 (g : Geometry) : Type 0 where
   pub s-fits : g .s < 2 ^ 64
   pub p-fits : g .p < 2 ^ 64
 
--- What is written reads back as it was, and is as long as its struct. A write's answer is three numbers, as a geometry is.
+-- What a C program finds in the fields of a session, each at its byte.
+pub record SessionFields (s : Session) (r : List ℕ) : Type 0 where
+  pub block-bytes : eightAt 0 r ≡ s .geometry .b
+  pub slice-blocks : eightAt 8 r ≡ s .geometry .s
+  pub slices : eightAt 16 r ≡ s .geometry .p
+  pub volume : eightAt 24 r ≡ s .k
+  pub is-open : eightAt 32 r ≡ bitOf (s .opened)
+  pub data-keys : part 40 480 r ≡ s .keys
+
+-- And in a struct of three numbers.
+pub record Fields (x y z : ℕ) (r : List ℕ) : Type 0 where
+  pub first : eightAt 0 r ≡ x
+  pub second : eightAt 8 r ≡ y
+  pub third : eightAt 16 r ≡ z
+
+-- What is written stands in the header's fields, reads back as it was, and is as long as its struct.
 pub record RecordLaws : Type 0 where
+  pub session-fields : (s : Session) → Numbers64 (s .geometry) → s .k < 2 ^ 64 → length (s .keys) ≡ 480 → SessionFields s (sessionBytes s)
   pub session-again : (s : Session) → Numbers64 (s .geometry) → s .k < 2 ^ 64 → length (s .keys) ≡ 480 → sessionIn (sessionBytes s) ≡ s
   pub session-long : (s : Session) → length (s .keys) ≡ 480 → length (sessionBytes s) ≡ 520
+  pub geometry-fields : (g : Geometry) → Numbers64 g → Fields (g .b) (g .s) (g .p) (geometryBytes g)
   pub geometry-again : (g : Geometry) → Numbers64 g → geometryIn (geometryBytes g) ≡ g
+  pub written-claimed : (ψ probes : ℕ) → ψ < 2 ^ 64 → probes < 2 ^ 64 → Fields 1 ψ probes (writtenBytes (WriteResult.Served (Claimed ψ) probes))
+  pub written-rewritten : (ψ probes : ℕ) → ψ < 2 ^ 64 → probes < 2 ^ 64
+      → Fields 0 ψ probes (writtenBytes (WriteResult.Served (Rewritten ψ) probes))
+  pub written-refused : (number probes : ℕ) → probes < 2 ^ 64 → Fields 0 0 probes (writtenBytes (WriteResult.Refused number probes))
   pub three-long : (x y z : ℕ) → length (threeBytes x y z) ≡ 24

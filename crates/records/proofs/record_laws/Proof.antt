@@ -1,14 +1,21 @@
 -- `records::record_laws` meets its contract. Assumes nothing.
-use Rattle.records.proofs.Structs.{session-again, sessionBytes-length, geometry-again, threeBytes-length}
+use native.Mathlib.Omega.{arith}
+use Rattle.records.proofs.Structs.{session-fields, session-again, sessionBytes-length, geometry-fields, geometry-again}
+use Rattle.records.proofs.Structs.{three-fields, threeBytes-length}
 use Rattle.records.proofs.record_laws.Statement.{statement}
 use Rattle.records.proofs.record_laws.Tie as tie
 
 returns : tie.Need-returns
 returns c =
     record {
+      session-fields = session-fields;
       session-again = session-again;
       session-long = sessionBytes-length;
+      geometry-fields = geometry-fields;
       geometry-again = geometry-again;
+      written-claimed = λ ψ probes. three-fields 1 ψ probes (omega arith);
+      written-rewritten = λ ψ probes. three-fields 0 ψ probes (omega arith);
+      written-refused = λ number probes. three-fields 0 0 probes (omega arith) (omega arith);
       three-long = threeBytes-length;
     }
 
