@@ -3,13 +3,13 @@
 ghost use mathlib.Core.Path.{_≡_};
 ghost use Prim.Native.Nat.{_+_, _≤_, _<_};
 ghost use lib.ListN.{length};
+use claims::Walk;
+use frames::MAP_ENTRIES;
+use frames::MOST_SLICES;
 use libc::STDIN_FILENO;
 use libc::STDOUT_FILENO;
+use lines::OUTPUT_BYTES;
 use walk::LINE_BYTES;
-use walk::MAP_ENTRIES;
-use walk::MOST_SLICES;
-use walk::OUTPUT_BYTES;
-use walk::Walk;
 
 // What goes on from piece to piece: the walk, and how much of the unfinished line is kept.
 struct Place {

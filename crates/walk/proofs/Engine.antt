@@ -23,9 +23,9 @@ use Rattle.model.proofs.Tests.{equal-passes, badEntry-fits}
 use Rattle.model.proofs.Requests.{Stands, standing-stands, short-true}
 use Rattle.model.proofs.Bounds.{b-bounds}
 use Rattle.model.proofs.Searches.{firstFree-free}
-use Rattle.walk.specs.State.{zeros, endless}
+use Rattle.claims.specs.State.{zeros, endless}
+use Rattle.claims.proofs.Claims.{zeros-length}
 use Rattle.walk.specs.Theorems.{answerNumbers}
-use Rattle.walk.proofs.Example.{zeros-length}
 
 -- ---- either way of a test, and of a refusal
 

@@ -3,22 +3,19 @@ use Prim.Native.Nat.{ℕ, suc, _*_}
 use mathlib.Core.Path.{_≡_, refl}
 use mathlib.Core.Bool.{true, false}
 use mathlib.Core.List.{List, [], _∷_}
-use lib.ListN.{length, getD, set, replicate, length-replicate}
+use lib.ListN.{getD, set, replicate}
 use Rattle.refusals.specs.Numbers.{refuse}
 use Rattle.block.specs.Bytes.{numberAfter, bigEndian}
 use Rattle.model.specs.declared.Geometry.{Geometry}
 use Rattle.model.specs.Geometry.{badGeometry, mapBlocks, headerBlocks, deviceLength, sliceStart, blockStart}
 use Rattle.model.specs.Session.{held, unmapped, standing, asked, short}
 use Rattle.model.specs.Write.{search, firstFree, writeRefusal, writeModel}
-use Rattle.walk.specs.Hexadecimal.{value, digits, decode}
-use Rattle.walk.specs.State.{State, empty, allOpen, start, zeros}
-use Rattle.walk.specs.Frames.{onSize, pairs, onOrder, onClaim, onKind, onFrame, step}
+use Rattle.lines.specs.Hexadecimal.{value, digits, decode}
+use Rattle.claims.specs.State.{State, empty, allOpen, start}
+use Rattle.claims.proofs.Claims.{zeros-length}
+use Rattle.frames.specs.Frames.{onSize, pairs, onOrder, onClaim, onKind, onFrame}
+use Rattle.walk.specs.Lines.{step}
 use Rattle.walk.specs.Theorems.{answers, exampleLines, exampleAnswers}
-
--- The text and the tape of a write stay shut: only their lengths count.
-pub zeros-length : (n : ℕ) → length (zeros n) ≡ n
-unfolding zeros
-zeros-length n = length-replicate n 0
 
 -- ---- the states of the example
 

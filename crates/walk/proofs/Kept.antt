@@ -11,9 +11,11 @@ use lib.Seq.{take-all}
 use borrow.Author.Tests.{lt-ltb}
 use Rattle.model.specs.Parts.{choose}
 use Rattle.model.proofs.Tests.{below}
-use Rattle.walk.specs.Hexadecimal.{Spelt, Bytes, Neither, value, before, decode}
-use Rattle.walk.specs.State.{State}
-use Rattle.walk.specs.Frames.{step, onFrame, refusedBy}
+use Rattle.lines.specs.Hexadecimal.{Spelt, Bytes, Neither, value, before, decode}
+use Rattle.claims.specs.State.{State}
+use Rattle.claims.specs.Claims.{refusedBy}
+use Rattle.frames.specs.Frames.{onFrame}
+use Rattle.walk.specs.Lines.{step}
 
 -- The digits of a line that spells bytes.
 abbrev Spells : Spelt → ℕ → Type 0

@@ -1,11 +1,6 @@
-pub mod Decoding
-pub mod Printing
 pub mod Pieces
 pub mod Kept
 pub mod Lines
 pub mod Example
 pub mod Engine
 pub mod Reached
-pub mod Pairs
-pub mod Frames
-pub mod Claims

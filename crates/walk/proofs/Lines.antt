@@ -9,7 +9,7 @@ use lib.ListN.{length, take, drop}
 use lib.Seq.{append-snoc, drop-append-seam}
 use borrow.Author.Tests.{lt-ltb, le-ltb, eq-eqb, ne-eqb}
 use Rattle.model.proofs.Tests.{below, equal}
-use Rattle.walk.specs.State.{State, start}
+use Rattle.claims.specs.State.{State, start}
 use Rattle.walk.specs.Lines.{linesFrom, outputs, walk, lineLength, Reader, feed, finish, Reads, ends, piece}
 use Rattle.walk.proofs.Kept.{step-kept, take-take-append}
 

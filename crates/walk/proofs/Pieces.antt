@@ -10,8 +10,7 @@ use lib.Dec.{eqb}
 use lib.ListN.{length, getD, set, take, drop, length-append, length-take, take-append-drop}
 use lib.Seq.{drop-cons, take-suc, take-suc-set, take-all, take-take, take-append-le, length-take-le}
 use Rattle.model.specs.Parts.{choose}
-use Rattle.walk.specs.Frames.{step, outputLine}
-use Rattle.walk.specs.Lines.{lastLine, outputs, lineLength, Reader, kept, ended, goesOn, feed, finish}
+use Rattle.walk.specs.Lines.{step, outputLine, lastLine, outputs, lineLength, Reader, kept, ended, goesOn, feed, finish}
 
 -- ---- the length of a line
 

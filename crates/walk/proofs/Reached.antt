@@ -18,10 +18,12 @@ use Rattle.model.specs.Opening.{member}
 use Rattle.model.specs.Conditions.{EntryFits}
 use Rattle.model.proofs.Tests.{badGeometry-none}
 use Rattle.model.proofs.Bounds.{b-bounds, bytes-small, offsetOf-lt, block-fits}
-use Rattle.walk.specs.Hexadecimal.{Spelt, Bytes, Neither, decode}
-use Rattle.walk.specs.State.{State, empty}
-use Rattle.walk.specs.Frames.{Stepped, refusedBy, sizeOf, onSize, pairs, onOrder, served, printed, counting, written}
-use Rattle.walk.specs.Frames.{onClaim, onKind, onFrame, step}
+use Rattle.lines.specs.Hexadecimal.{Spelt, Bytes, Neither, decode}
+use Rattle.lines.specs.Answers.{served}
+use Rattle.claims.specs.State.{State, empty}
+use Rattle.claims.specs.Claims.{Stepped, refusedBy, printed, written}
+use Rattle.frames.specs.Frames.{sizeOf, onSize, pairs, onOrder, counting, onClaim, onKind, onFrame}
+use Rattle.walk.specs.Lines.{step}
 use Rattle.walk.specs.Theorems.{Reached, begin, after, answerNumbers, Listed, byte, values}
 use Rattle.walk.proofs.Engine.{choose-cases, unless-cases, Fits, FitsOf, write-cases}
 

@@ -4,8 +4,20 @@ use mathlib.Core.List.{List, [], _∷_, _++_}
 use lib.Dec.{ltb, eqb}
 use lib.ListN.{length, take, drop}
 use Rattle.model.specs.Parts.{choose}
-use Rattle.walk.specs.State.{State, start}
-use Rattle.walk.specs.Frames.{step, outputLine}
+use Rattle.lines.specs.Hexadecimal.{digits, decode}
+use Rattle.claims.specs.State.{State, start}
+use Rattle.claims.specs.Claims.{Stepped}
+use Rattle.frames.specs.Frames.{onFrame}
+
+-- ---- one line
+
+-- A line, by the frame that it spells.
+unfoldable pub step : State → (line : List ℕ) → Stepped
+step w line = onFrame w (decode line)
+
+-- The output line: the digits of the answer, and byte 0a.
+abbrev pub outputLine : Stepped → List ℕ
+outputLine s = digits (s .answer) ++ (10 ∷ [])
 
 -- ---- the whole input
 

@@ -5,10 +5,10 @@ use mathlib.Core.Bool.{true}
 use mathlib.Core.List.{List, [], _∷_}
 use lib.ListN.{length}
 use Rattle.model.specs.Opening.{member}
-use Rattle.walk.specs.Hexadecimal.{digits}
-use Rattle.walk.specs.State.{State, start}
-use Rattle.walk.specs.Frames.{served, step}
-use Rattle.walk.specs.Lines.{walk, Reader, feed, Reads}
+use Rattle.lines.specs.Hexadecimal.{digits}
+use Rattle.lines.specs.Answers.{served}
+use Rattle.claims.specs.State.{State, start}
+use Rattle.walk.specs.Lines.{step, walk, Reader, feed, Reads}
 
 -- ---- the document's example
 

@@ -6,13 +6,15 @@ use lib.ListN.{length-take}
 use lib.Seq.{length-take-le}
 use borrow.Author.Needs.{needs}
 use Rattle.refusals.specs.declared.Refusal.the-variants.{MalformedLine}
-use Rattle.walk.specs.declared.Decoded.{Decoded}
-use Rattle.walk.specs.Hexadecimal.{decode}
-use Rattle.walk.specs.State.{State}
-use Rattle.walk.specs.Frames.{onFrame, step}
-use Rattle.walk.specs.Answers.{stateOf, countIn, speltIn}
+use Rattle.lines.specs.declared.Decoded.{Decoded}
+use Rattle.lines.specs.Hexadecimal.{decode}
+use Rattle.lines.specs.Answers.{countIn, speltIn}
+use Rattle.claims.specs.State.{State}
+use Rattle.claims.specs.Answers.{stateOf}
+use Rattle.claims.proofs.Claims.{refused-answers}
+use Rattle.frames.specs.Frames.{onFrame}
+use Rattle.walk.specs.Lines.{step}
 use Rattle.walk.proofs.Kept.{step-long}
-use Rattle.walk.proofs.Frames.{refused-answers}
 use Rattle.walk.proofs.answer.Statement.{statement}
 use Rattle.walk.proofs.answer.Tie as tie
 

@@ -5,11 +5,12 @@ use Prim.Native.Nat.{ℕ}
 use native.Mathlib.Omega.{arith}
 use lib.Seq.{length-take-le}
 use borrow.Author.Needs.{needs}
-use Rattle.walk.specs.State.{State}
+use Rattle.lines.proofs.Printing.{overlay-nil}
+use Rattle.claims.specs.State.{State}
+use Rattle.claims.specs.Answers.{stateOf}
 use Rattle.walk.specs.Lines.{Reader}
-use Rattle.walk.specs.Answers.{stateOf, readerOf}
+use Rattle.walk.specs.Answers.{readerOf}
 use Rattle.walk.proofs.Pieces.{lineLength-le, feed-goes-on, feed-ended}
-use Rattle.walk.proofs.Printing.{overlay-nil}
 use Rattle.walk.proofs.feed.Statement.{statement}
 use Rattle.walk.proofs.feed.Tie as tie
 

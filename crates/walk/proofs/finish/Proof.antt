@@ -7,10 +7,10 @@ use native.Mathlib.Omega.{arith}
 use lib.ListN.{length, take, length-take}
 use lib.Seq.{take-all}
 use borrow.Author.Needs.{needs}
+use Rattle.lines.proofs.Printing.{overlay-nil}
 use Rattle.walk.specs.Lines.{outputs, finish}
 use Rattle.walk.specs.Answers.{readerOf}
 use Rattle.walk.proofs.Pieces.{finish-line}
-use Rattle.walk.proofs.Printing.{overlay-nil}
 use Rattle.walk.proofs.finish.Statement.{statement}
 use Rattle.walk.proofs.finish.Tie as tie
 
