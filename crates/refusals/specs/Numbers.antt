@@ -1,4 +1,5 @@
--- The refusals of document 01 by their numbers ("Refused for what was handed in", "Refused for how things stand").
+-- The refusals of document 01 by their numbers ("Refused for what was handed in", "Refused for how things stand"), and those of
+-- document 02 from 23 on.
 -- Assumes nothing.
 use Prim.Native.Nat.{ℕ, zero, suc}
 use mathlib.Core.Bool.{Bool, true, false}
@@ -6,6 +7,7 @@ use Rattle.refusals.specs.declared.Refusal.{Refusal}
 use Rattle.refusals.specs.declared.Refusal.the-variants.{BadGeometry, DeviceLength, KeyLength, TableLength, BadPermutation, NoCell}
 use Rattle.refusals.specs.declared.Refusal.the-variants.{HeaderTag, HeaderGeometry, BadEntry, SliceTwice, VolumeAbove, AddressAbove}
 use Rattle.refusals.specs.declared.Refusal.the-variants.{WrongLength, MalformedLine, TagDiffers, NotOpen, TapeShort, NoFreeSlice}
+use Rattle.refusals.specs.declared.Refusal.the-variants.{KeyCount, LowerCell}
 use Rattle.refusals.specs.declared.Answer.{Answer}
 use Rattle.refusals.specs.declared.Answer.the-variants.{Served, Refused}
 
@@ -29,6 +31,8 @@ refusalNumber TagDiffers = 15
 refusalNumber NotOpen = 20
 refusalNumber TapeShort = 21
 refusalNumber NoFreeSlice = 22
+refusalNumber KeyCount = 23
+refusalNumber LowerCell = 24
 
 -- The number of an answer that carries nothing more: 0 where the call was served.
 abbrev pub answerNumber : Answer → ℕ

@@ -1,4 +1,4 @@
-// What a call can be refused for (document 01), and the answer that says no more than served or refused.
+// What a call can be refused for (document 01, and 02 from 23 on), and the answer that says no more than served or refused.
 ghost use mathlib.Core.Path.{_≡_};
 ghost use Rattle.refusals.specs.Numbers.{refusalNumber, answerNumber};
 
@@ -40,6 +40,10 @@ pub enum Refusal {
     TapeShort,
     // 22: no slice that the permutation names is free.
     NoFreeSlice,
+    // 23: no key, or more than 15 (formatting).
+    KeyCount,
+    // 24: a key opens a cell below its own (formatting).
+    LowerCell,
 }
 
 // The answer of a call that hands back no value of its own.
@@ -71,6 +75,8 @@ pub fn refusal_number(r: Refusal) -> u8
         Refusal::NotOpen => 20,
         Refusal::TapeShort => 21,
         Refusal::NoFreeSlice => 22,
+        Refusal::KeyCount => 23,
+        Refusal::LowerCell => 24,
     }
 }
 
