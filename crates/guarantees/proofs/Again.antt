@@ -20,10 +20,9 @@ use Rattle.model.specs.Geometry.{Allowed}
 use Rattle.model.specs.Conditions.{TablesFit, EntryFits, Enough, Names}
 use Rattle.guarantees.specs.Arrays.{Arrays}
 use Rattle.guarantees.specs.Points.{Handed, Lent, opens, begin, Reopens}
-use Rattle.model.proofs.Parts.{part-part}
+use Rattle.model.proofs.Parts.{part-part, patched-length}
 use Rattle.model.proofs.Bounds.{b-bounds, sliceOf-lt}
 use Rattle.model.proofs.Tests.{below}
-use Rattle.guarantees.proofs.Patches.{patched-length}
 use Rattle.guarantees.proofs.Places.{Apart, slice-first}
 use Rattle.guarantees.proofs.SoundTables.{tableEntry}
 use Rattle.guarantees.proofs.Blocks.{deciphered-same}

@@ -134,7 +134,7 @@ module _ (device : List ℕ) (g : Geometry) (key maps owners perm : List ℕ) wh
       withKeys-answered (wrong-tag i vmk reached e) = header-tag first k top low i vmk reached e
       withKeys-answered (misfit i vmk text reached e f) = header-geometry first k top low i vmk text reached e f
 
-    withCell-answered : {c : Cell} → CellsEnd key (cellOf device) c → Opens (withCell g header c)
+    withCell-answered : {c : Cell} → CellsEnd key (cellOf device) 15 c → Opens (withCell g header c)
     unfolding withCell noKeys
     withCell-answered (lowest k top low) =
         withKeys-answered k top (record { top = low .0; opens = low .1; below = low .2 }) (chain-ends device g k top ok long (low .0))
@@ -148,4 +148,4 @@ module _ (device : List ℕ) (g : Geometry) (key maps owners perm : List ℕ) wh
       (λ r e. handed-wrong (suc r) (omega arith) (leads-first (rw e at q)))
       (λ e. let taken =
       openRefusal-none device (record { geometry = g; key = key; perm = perm; position = 0 }) (record { maps = maps; owners = owners }) e in
-      withCell-answered (leads-first (rw e at q)) (taken .good) (taken .long) (firstCell-ends key (cellOf device)))
+      withCell-answered (leads-first (rw e at q)) (taken .good) (taken .long) (firstCell-ends key (cellOf device) 15))

@@ -1,9 +1,10 @@
 -- Chains of tests: the number that a chain gives is that of the first rule that holds. Assumes nothing.
-use Prim.Native.Nat.{ℕ}
+use Prim.Native.Nat.{ℕ, suc}
 use mathlib.Core.Path.{_≡_, refl, ap, _∙_}
 use mathlib.Core.Logic.{inl, inr}
 use mathlib.Core.Bool.{Bool, true, false, _||_}
 use mathlib.Core.List.{List, [], _∷_, _++_}
+use native.Mathlib.Omega.{arith}
 use Rattle.refusals.specs.Numbers.{refuse}
 use Rattle.guarantees.specs.Rules.{Rule, rule, First}
 use Rattle.guarantees.proofs.Reflects.{Reflects, holds, fails, Refutes, passes, refutes, refutes-map, or-refutes}
@@ -21,6 +22,18 @@ unfolding First
 leads-first (here a e d) = inl (a, e, d)
 leads-first (later f q) = inr (f, leads-first q)
 leads-first none = (refl, refl)
+
+-- And back.
+pub first-leads : (rs : List Rule) {n c : ℕ} → First rs n c → Leads rs n c
+unfolding First
+first-leads [] q = rw (q .0, q .1) none
+first-leads (r ∷ rs) (inl q) = here (q .0) (q .1) (q .2)
+first-leads (r ∷ rs) (inr q) = later (q .0) (first-leads rs (q .1))
+
+-- A rule whose number is not the answer does not hold.
+pub leads-passed : {r : Rule} {rs : List Rule} {n c : ℕ} → (n ≡ r .number → ⊥) → Leads (r ∷ rs) n c → (r .holds → ⊥) × Leads rs n c
+leads-passed ne (here a e d) = absurd (ne e)
+leads-passed ne (later f q) = (f, q)
 
 -- A refusal by one of the rules is one by them and any after them.
 pub leads-append : {rs : List Rule} (ss : List Rule) {n c : ℕ} → (n ≡ 0 → ⊥) → Leads rs n c → Leads (rs ++ ss) n c
@@ -86,3 +99,32 @@ leads-row {n} {rest} {P} {rs} g q = rw (g .refuses rest) (row (g .decides))
     row : {b : Bool} → Refutes P b → Leads (rule n (P → ⊥) ∷ rs) (refuse b n rest) 0
     row (refutes f) = here f refl refl
     row (passes p) = later (λ (f : P → ⊥). f p) q
+
+-- ---- chains that go on past their rules
+
+-- A chain of tests comes to the number of the first rule that holds, or, where none does and P is known, to what its rest says.
+pub data Comes (rs : List Rule) (P : Type 0) (rest : ℕ) : (n : ℕ) → Type 1 where
+  stopped : {n : ℕ} → (n ≡ 0 → ⊥) → Leads rs n 0 → Comes rs P rest n
+  through : Leads rs 0 0 → P → Comes rs P rest rest
+
+pub comes-map : {rs : List Rule} {P Q : Type 0} {rest n : ℕ} → (P → Q) → Comes rs P rest n → Comes rs Q rest n
+comes-map f (stopped ne first) = stopped ne first
+comes-map f (through first known) = through first (f known)
+
+pub comes-rest : {rest : ℕ} → Comes [] Unit rest rest
+comes-rest = through none tt
+
+-- One row: its rule holds exactly where P fails.
+pub comes-rule : {t : ℕ → ℕ} {n rest r : ℕ} {A P Q : Type 0} {rs : List Rule} → ((P → ⊥) → A) → (A → P → ⊥) → Guards t (suc n) P
+    → Comes rs Q rest r → Comes (rule (suc n) A ∷ rs) (P × Q) rest (t r)
+unfolding refuse
+comes-rule {n} {rest} {r} {A} {P} {Q} {rs} fail hold g q = rw (g .refuses r) (row (g .decides) q)
+  where
+    row : {b : Bool} {m : ℕ} → Refutes P b → Comes rs Q rest m → Comes (rule (suc n) A ∷ rs) (P × Q) rest (refuse b (suc n) m)
+    row (refutes f) k = stopped {n = suc n} (omega arith) (here (fail f) refl refl)
+    row (passes p) (stopped ne first) = stopped ne (later (λ a. hold a p) first)
+    row (passes p) (through first known) = through (later (λ a. hold a p) first) (p, known)
+
+pub comes-row : {t : ℕ → ℕ} {n rest r : ℕ} {P Q : Type 0} {rs : List Rule} → Guards t (suc n) P → Comes rs Q rest r
+    → Comes (rule (suc n) (P → ⊥) ∷ rs) (P × Q) rest (t r)
+comes-row {P} = comes-rule (λ f. f) (λ (f : P → ⊥). f)

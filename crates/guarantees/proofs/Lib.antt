@@ -9,6 +9,7 @@ pub mod SoundTables
 pub mod Cases
 pub mod Claims
 pub mod MapBlocks
+pub mod Making
 pub mod Stored
 pub mod Unlocks
 pub mod Tables
@@ -19,3 +20,4 @@ pub mod Point2
 pub mod Again
 pub mod Point3
 pub mod Points
+pub mod Blank

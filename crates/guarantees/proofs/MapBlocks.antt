@@ -1,17 +1,15 @@
 -- What a close stores in the map blocks is what the statements say, and deciphers to the entries held. Assumes nothing.
-use Prim.Native.Nat.{ℕ, zero, suc, _+_, _-_, _*_, _/_, _%_, _≤_, _<_}
+use Prim.Native.Nat.{ℕ, zero, suc, _+_, _*_, _/_, _%_, _≤_, _<_}
 use mathlib.Core.Path.{_≡_, refl, sym, ap, ap₂, _∙_}
-use mathlib.Core.List.{List, [], _∷_, _++_}
+use mathlib.Core.List.{List, [], _∷_, _++_, List·Memᴰ·head}
 use mathlib.Core.Logic.{⊎-elim}
 use native.Mathlib.Omega.{arith}
-use native.Mathlib.Nat.{add-zero, div-add-mod', mod-lt, mul-comm, mul-le-mul-left, mul-le-mul-right}
-use native.Mathlib.Nat.{eq-or-lt-of-le, le-of-suc-le-suc}
+use native.Mathlib.Nat.{div-add-mod', mod-lt, mul-comm, mul-le-mul-left, mul-le-mul-right}
 use lib.ListN.{length}
-use lib.Seq.{take-all}
 use lib.Dec.{ltb}
 use borrow.Author.Tests.{lt-ltb}
 use Rattle.model.specs.declared.Geometry.{Geometry}
-use Rattle.model.specs.Parts.{choose, part, overlay, Patch, patched}
+use Rattle.model.specs.Parts.{choose, part, joined, overlay, Patch, patched}
 use Rattle.model.specs.Geometry.{perBlock, mapBlocks, deviceLength, headerStart, headerOf, mapStart, Allowed}
 use Rattle.model.specs.Session.{Held, geometry, keyOf, entry, unmapped}
 use Rattle.model.specs.Opening.{storedEntry}
@@ -19,12 +17,11 @@ use Rattle.model.specs.Close.{mapText, mapBlock, mapBytes, mapPatches}
 use Rattle.model.specs.Conditions.{EntryFits, Enough}
 use Rattle.guarantees.specs.Runs.{Range, mapRanges}
 use Rattle.guarantees.specs.Effects.{mapStored, mapsStored}
-use Rattle.model.proofs.Parts.{part-length, part-part, overlay-before, overlay-within, joined-length}
-use Rattle.model.proofs.Parts.{joined-ext, joined-piece, patched-++}
-use Rattle.model.proofs.Bounds.{perBlock-least, mapBlock-of, maps-fit}
+use Rattle.model.proofs.Parts.{part-length, part-part, joined-length, joined-ext, joined-part, patched-++}
+use Rattle.model.proofs.Bounds.{perBlock-least, mapBlock-of, headers-fit}
 use Rattle.model.proofs.MapBlocks.{mapBlock-length, mapBlock-row}
 use Rattle.model.proofs.Seals.{sealed-entry}
-use Rattle.guarantees.proofs.Patches.{rangesOf, ranges-++, patched-length}
+use Rattle.guarantees.proofs.Patches.{rangesOf, ranges-++, InOrder, joined-inOrder, patched-whole, joined-member}
 use Rattle.guarantees.proofs.Places.{Apart, overlay-apart}
 
 -- ---- one map block
@@ -41,16 +38,20 @@ module _ (maps : List ℕ) (g : Geometry) (ok : Allowed g) where
       each-length : (t : ℕ) → t < mapBlocks g → length (mapBlock maps g key i t (iv t)) ≡ g .b
       each-length t l = mapBlock-length maps g i t ok key (iv t) (iv-length t l)
 
-      mapBytes-length : length (mapBytes maps g key tape at i) ≡ g .b * mapBlocks g
+      pub mapBytes-length : length (mapBytes maps g key tape at i) ≡ g .b * mapBlocks g
       unfolding mapBytes
       mapBytes-length =
           joined-length (g .b) (mapBlocks g) (λ t. mapBlock maps g key i t (iv t)) each-length ∙ mul-comm (mapBlocks g) (g .b)
 
-      -- A part of block t.
-      mapBytes-part : (t : ℕ) → t < mapBlocks g → (x u : ℕ) → x + u ≤ g .b
-          → part (t * g .b + x) u (mapBytes maps g key tape at i) ≡ part x u (mapBlock maps g key i t (iv t))
+      -- Where they stand on a device, each block stands in its place.
+      pub mapBlock-stands : (device : List ℕ) → part (mapStart g i) (g .b * mapBlocks g) device ≡ mapBytes maps g key tape at i
+          → (t : ℕ) → t < mapBlocks g → part (mapStart g i + g .b * t) (g .b) device ≡ mapBlock maps g key i t (iv t)
       unfolding mapBytes
-      mapBytes-part t l x u f = joined-piece (g .b) (mapBlocks g) (λ n. mapBlock maps g key i n (iv n)) each-length t l x u f
+      mapBlock-stands device stand t l =
+          sym (part-part device (mapStart g i) (g .b * mapBlocks g) (g .b * t) (g .b) (omega (arith, mul-le-mul-left (g .b) l)))
+          ∙ ap (part (g .b * t) (g .b)) stand
+          ∙ ap (λ (y : ℕ). part y (g .b) (mapBytes maps g key tape at i)) (mul-comm (g .b) t)
+          ∙ joined-part (g .b) (mapBlocks g) (λ n. mapBlock maps g key i n (iv n)) each-length t l
 
 -- ---- the patches of a close of K volumes
 
@@ -100,28 +101,33 @@ module _ (h : Held) (tape : List ℕ) (ok : Allowed (geometry h)) (K : ℕ)
           ∙ sym (part-part tape (h .position) (16 * m * K) (16 * (m * n + t)) 16 (omega (arith, mul-le-mul-left m l)))
 
   module _ (s : List ℕ) (long : length s ≡ deviceLength g₀) (low : K ≤ 15) where
-    maps-apart : (i n : ℕ) → i < n → mapStart g₀ i + g₀ .b * m ≤ mapStart g₀ n
-    unfolding mapStart
-    maps-apart i n l = omega (arith, mul-le-mul-left (g₀ .b) (mul-le-mul-right (1 + m) l))
-
     -- The device after the maps of the first n volumes.
     abbrev after : ℕ → List ℕ
     after n = patched (mapPatches h tape n) s
 
+    -- The maps stand where they were stored, since each ends where the next header begins.
+    abbrev stored : ℕ → Patch
+    stored i = record { at = mapStart g₀ i; bytes = bytes i }
+
+    mapPatches-joined : (n : ℕ) → mapPatches h tape n ≡ joined n (λ i. stored i ∷ [])
+    unfolding mapPatches joined
+    mapPatches-joined zero = refl
+    mapPatches-joined (suc n) = ap (λ (ps : List Patch). ps ++ stored n ∷ []) (mapPatches-joined n)
+
+    maps-inOrder : InOrder (headerStart g₀ 0) (joined K (λ i. stored i ∷ [])) (headerStart g₀ K)
+    unfolding mapStart
+    maps-inOrder = joined-inOrder (headerStart g₀) (λ i. stored i ∷ []) K (λ i l. (omega arith, omega (arith, bytes-length i l)))
+
+    maps-stand : (i : ℕ) → i < K → part (mapStart g₀ i) (g₀ .b * m) (after K) ≡ bytes i
+    maps-stand i l =
+        ap (λ (ps : List Patch). part (mapStart g₀ i) (g₀ .b * m) (patched ps s)) (mapPatches-joined K)
+        ∙ patched-whole (headerStart g₀ 0) (joined K (λ v. stored v ∷ [])) (headerStart g₀ K) s maps-inOrder
+        (omega (arith, headers-fit g₀ ok K low)) (stored i) (joined-member (λ v. stored v ∷ []) K i l (List·Memᴰ·head refl)) (g₀ .b * m)
+        (bytes-length i l)
+
     after-suc : (n : ℕ) → after (suc n) ≡ overlay (after n) (mapStart g₀ n) (bytes n)
     unfolding mapPatches patched
     after-suc n = patched-++ (mapPatches h tape n) _ s
-
-    after-part : (n : ℕ) → n ≤ K → (i : ℕ) → i < n → (x u : ℕ) → x + u ≤ g₀ .b * m → part (mapStart g₀ i + x) u (after n) ≡ part x u (bytes i)
-    after-part zero k i l x u f = absurd (omega arith)
-    after-part (suc n) k i l x u f =
-        ap (part (mapStart g₀ i + x) u) (after-suc n)
-        ∙ ⊎-elim
-        (λ e. rw e (overlay-within (after n) (mapStart g₀ n) (bytes n) x u (omega (arith, bytes-length n k))
-        (omega (arith, bytes-length n k, patched-length (mapPatches h tape n) s, maps-fit g₀ ok n (omega arith)))))
-        (λ e. overlay-before (after n) (mapStart g₀ n) (bytes n) (mapStart g₀ i + x) u (omega (arith, maps-apart i n e))
-        ∙ after-part n (omega arith) i e x u f)
-        (eq-or-lt-of-le (le-of-suc-le-suc l))
 
     -- What no map covers stays.
     pub mapPatches-elsewhere : (n : ℕ) → n ≤ K → (a w : ℕ) → ((v : ℕ) → v < n → Apart a w (mapStart g₀ v) (g₀ .b * m))
@@ -143,23 +149,14 @@ module _ (h : Held) (tape : List ℕ) (ok : Allowed (geometry h)) (K : ℕ)
       abbrev header : List ℕ
       header = headerOf g₀ (after K) i
 
-      -- A part of map block t, seen through the header.
-      header-part : (x u : ℕ) → x + u ≤ g₀ .b → part (g₀ .b * (1 + t) + x) u header ≡ part x u (mapBlock (h .maps) g₀ key i t iv-at)
-      unfolding mapStart
-      header-part x u f =
-          let q : headerStart g₀ i + (g₀ .b * (1 + t) + x) ≡ mapStart g₀ i + (t * g₀ .b + x) = omega arith in
-          part-part (after K) (headerStart g₀ i) (g₀ .b * (1 + m)) (g₀ .b * (1 + t) + x) u (omega (arith, mul-le-mul-left (g₀ .b) lt))
-          ∙ ap (λ (y : ℕ). part y u (after K)) q
-          ∙ after-part K (omega arith) i li (t * g₀ .b + x) u (omega (arith, mul-le-mul-left (g₀ .b) lt))
-          ∙ mapBytes-part (h .maps) g₀ ok key i tape (at i) (left i li) t lt x u f
-
-      -- The whole of it.
+      -- Map block t, seen through the header.
       header-block : part (g₀ .b * (1 + t)) (g₀ .b) header ≡ mapBlock (h .maps) g₀ key i t iv-at
+      unfolding mapStart
       header-block =
-          ap (λ (y : ℕ). part y (g₀ .b) header) (sym (add-zero (g₀ .b * (1 + t))))
-          ∙ header-part 0 (g₀ .b) (omega arith)
-          ∙ take-all (g₀ .b) (mapBlock (h .maps) g₀ key i t iv-at)
-          (omega (arith, each-length (h .maps) g₀ ok key i tape (at i) (left i li) t lt))
+          let q : headerStart g₀ i + g₀ .b * (1 + t) ≡ mapStart g₀ i + g₀ .b * t = omega arith in
+          part-part (after K) (headerStart g₀ i) (g₀ .b * (1 + m)) (g₀ .b * (1 + t)) (g₀ .b) (omega (arith, mul-le-mul-left (g₀ .b) lt))
+          ∙ ap (λ (y : ℕ). part y (g₀ .b) (after K)) q
+          ∙ mapBlock-stands (h .maps) g₀ ok key i tape (at i) (left i li) (after K) (maps-stand i li) t lt
 
     -- What is read back is what was held.
     pub storedEntry-back : (i σ : ℕ) → i < K → σ < g₀ .p → EntryFits g₀ (entry (h .maps) g₀ i σ)

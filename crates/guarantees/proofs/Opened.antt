@@ -162,7 +162,7 @@ module _ (device : List ℕ) (x : Handed) (l : Lent) (k : ℕ) where
   module _ (s : Served) where
     pub served-cell : Lowest device (x .key) k (s .vmk)
     served-cell =
-        let low = firstCell-lowest (x .key) (cellOf device) k (s .vmk) (s .lowest) in record { top = low .0; opens = low .1; below = low .2 }
+        let low = firstCell-lowest (x .key) (cellOf device) 15 k (s .vmk) (s .lowest) in record { top = low .0; opens = low .1; below = low .2 }
 
     pub served-low : k < 15
     served-low = served-cell .top

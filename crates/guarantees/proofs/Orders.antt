@@ -1,8 +1,8 @@
 -- The refusals of each call, in their order: the number that the model's chain gives is that of the first rule that holds.
 -- Assumes nothing.
-use Prim.Native.Nat.{ℕ, zero, suc, _+_, _*_, _/_, _<_}
+use Prim.Native.Nat.{ℕ, zero, suc, _+_, _*_, _/_, _≤_, _<_}
 use mathlib.Core.Path.{_≡_, sym}
-use mathlib.Core.Logic.{_⊎_, inl, inr}
+use mathlib.Core.Logic.{_⊎_, inl, inr, ⊎-elim}
 use mathlib.Core.Bool.{not}
 use mathlib.Core.List.{List, [], _∷_, _++_}
 use native.Mathlib.Omega.{arith}
@@ -17,20 +17,23 @@ use Rattle.model.specs.Opening.{member, missing, openRefusal}
 use Rattle.model.specs.Read.{readRefusal}
 use Rattle.model.specs.Write.{writeRefusal}
 use Rattle.model.specs.Close.{anyBad, closeRefusal}
+use Rattle.model.specs.Format.{formatNeed, formatRefusal}
 use Rattle.model.specs.Conditions.{Usable, TablesFit, EntryFits, Enough, sliceAt, Names}
-use Rattle.model.proofs.Requests.{short-false, short-true}
+use Rattle.model.proofs.Tests.{below}
+use Rattle.model.proofs.Requests.{short-false, short-true, Formattable}
 use Rattle.guarantees.specs.Rules.{Rule, rule}
-use Rattle.guarantees.specs.Rules.{standingRules, askedRules, openRules, readRules, closeRules}
+use Rattle.guarantees.specs.Rules.{standingRules, askedRules, openRules, formatTape, formatRules, readRules, closeRules}
 use Rattle.guarantees.proofs.Reflects.{Reflects, fails, ltb-reflects, leb-reflects, eqb-reflects, bool-reflects, reflects-map, or-reflects}
 use Rattle.guarantees.proofs.Reflects.{Refutes, refuted, not-refutes, ltb-refutes, Below, below-zero-refutes, below-suc-refutes}
 use Rattle.guarantees.proofs.Chains.{Guards, refuse-guards, guards-map, guards-both, Leads, none, leads-refuse, leads-row}
+use Rattle.guarantees.proofs.Chains.{Comes, comes-map, comes-rest, comes-rule, comes-row}
 
 -- ---- the tests of the rows
 
 differ-guards : (n x y : ℕ) → Guards (refuse (not (eqb x y)) n) n (x ≡ y)
 differ-guards n x y = refuse-guards n (not-refutes (eqb-reflects x y))
 
-badGeometry-guards : (n : ℕ) (g : Geometry) → Guards (badGeometry n g) n (Allowed g)
+pub badGeometry-guards : (n : ℕ) (g : Geometry) → Guards (badGeometry n g) n (Allowed g)
 unfolding badGeometry
 badGeometry-guards n g =
     guards-map
@@ -152,3 +155,22 @@ close-leads device h tape =
     (leads-row (refuse-guards 9 (anyBad-refutes (geometry h) (h .maps) ((h .session .k + 1) * geometry h .p)))
     (leads-row (refuse-guards 21 (short-refutes tape (h .position) _))
     none))
+
+-- ---- formatting
+
+pub format-comes : (device : ℕ) (g : Geometry) (n keys tape position rest : ℕ)
+    → Comes (formatRules device g n keys tape position) (Formattable device g n keys tape position) rest
+    (formatRefusal device g n keys tape position rest)
+unfolding formatRefusal formatNeed
+format-comes device g n keys tape position rest =
+    comes-map (λ p. record { allowed = p .0; long = p .1 .0; count = p .1 .1 .0; keyed = p .1 .1 .1 .0; enough = p .1 .1 .1 .1 .0 })
+    (comes-row (badGeometry-guards 1 g)
+    (comes-row (differ-guards 2 device (deviceLength g))
+    (comes-rule out (λ o. ⊎-elim (λ e p. omega (arith, p .0)) (λ l p. omega (arith, p .1)) o)
+    (guards-both (refuse-guards 23 (ltb-refutes n 1)) (refuse-guards 23 (ltb-refutes 15 n)))
+    (comes-row (differ-guards 3 keys (32 * n))
+    (comes-row (refuse-guards 21 (short-refutes tape position (formatTape g n)))
+    comes-rest)))))
+  where
+    out : ((1 ≤ n) × (n ≤ 15) → ⊥) → (n ≡ 0) ⊎ (15 < n)
+    out f = ⊎-elim (λ l. inr l) (λ l. ⊎-elim (λ k. inl (omega arith)) (λ k. absurd (f (k, l))) (below n 1)) (below 15 n)

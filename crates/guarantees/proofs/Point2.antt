@@ -21,7 +21,7 @@ use Rattle.model.specs.Conditions.{Usable, EntryFits, Enough}
 use Rattle.guarantees.specs.Rules.{closeRules, heldEntry}
 use Rattle.guarantees.specs.Arrays.{Arrays, put, arraysAfter, arraysAfterAll, Fits, Unfit, ReadDue, FindDue, found, nowhere}
 use Rattle.guarantees.specs.Arrays.{WriteDue, rewrite-short, claim-short, no-slice, full, CloseDue, done, close-short, Due, AllDue}
-use Rattle.model.proofs.Parts.{part-length, overlay-before, overlay-length}
+use Rattle.model.proofs.Parts.{part-length, overlay-before, overlay-length, patched-length}
 use Rattle.model.proofs.Tests.{equal}
 use Rattle.model.proofs.Bounds.{sliceOf-lt, offsetOf-lt}
 use Rattle.model.proofs.Requests.{readRefusal-none, readRefusal-served}
@@ -29,7 +29,6 @@ use Rattle.model.proofs.Blocks.{deciphered-unmapped}
 use Rattle.guarantees.proofs.Reflects.{ltb-reflects, eqb-reflects, bool-reflects, reflects-stable, choose-reflects}
 use Rattle.guarantees.proofs.Chains.{Leads, here, later}
 use Rattle.guarantees.proofs.Orders.{earlyRules, write-leads, close-leads}
-use Rattle.guarantees.proofs.Patches.{patched-length}
 use Rattle.guarantees.proofs.Places.{slice-first}
 use Rattle.guarantees.proofs.SoundTables.{SoundTables, OpenVolume, tableEntry}
 use Rattle.guarantees.proofs.Blocks.{same-address, restored-here, restored-other, claimedText}

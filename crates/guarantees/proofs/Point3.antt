@@ -20,11 +20,11 @@ use Rattle.guarantees.specs.Runs.{final, events, positions, left, writte
 use Rattle.model.specs.Conditions.{Enough}
 use Rattle.guarantees.specs.Rules.{heldEntry}
 use Rattle.guarantees.specs.Points.{EqualRuns}
-use Rattle.model.proofs.Parts.{part-length, part-agree}
+use Rattle.model.proofs.Parts.{part-length, part-agree, patched-length}
 use Rattle.model.proofs.Tests.{below}
 use Rattle.model.proofs.Bounds.{sliceOf-lt, offsetOf-lt, block-within, iv-within-slice}
 use Rattle.model.proofs.Requests.{readRefusal-none}
-use Rattle.guarantees.proofs.Patches.{rangesOf, patched-length, patched-both, patched-written}
+use Rattle.guarantees.proofs.Patches.{rangesOf, patched-both, patched-written}
 use Rattle.guarantees.proofs.SoundTables.{OpenVolume, tableEntry}
 use Rattle.guarantees.proofs.Blocks.{deciphered-same, claimed-length}
 use Rattle.guarantees.proofs.Cases.{Asked, readRefusalOf, Writable, write-stores, close-cases}

@@ -10,12 +10,12 @@ use Rattle.model.specs.declared.Geometry.{Geometry}
 use Rattle.model.specs.Parts.{part}
 use Rattle.model.specs.Geometry.{headerOf, sliceStart, sliceSize}
 use Rattle.model.specs.declared.Change.the-variants.{Claimed}
-use Rattle.model.specs.Session.{Held, Outcome, geometry, keyOf, sliceOf, offsetOf}
+use Rattle.model.specs.Session.{Held, Outcome, geometry, keyOf, blockCount, sliceOf, offsetOf}
 use Rattle.model.specs.Write.{WriteResult, writeModel}
 use Rattle.model.specs.Opening.{OpenOutcome, storedEntry}
 use Rattle.model.specs.Read.{deciphered}
 use Rattle.guarantees.specs.Runs.{State, Call, outcome, final, events, writtenByAll, Within}
-use Rattle.guarantees.specs.Arrays.{Arrays}
+use Rattle.guarantees.specs.Arrays.{Arrays, arraysAfterAll, AllDue}
 use Rattle.guarantees.specs.Openings.{AllUnlocked}
 use Rattle.guarantees.specs.Points.{Handed, Lent, opens, holds, begin, mapEntry, firstArrays, Opens, Run, Agree, EqualRuns}
 use Rattle.guarantees.specs.Points.{Points23, NoSliceTwice}
@@ -54,18 +54,29 @@ module _ (s : List ℕ) (x : Handed) (l : Lent) (k : ℕ) (sv : Served s x l k) 
   table-is i σ hi hσ =
       subst (λ (o : OpenOutcome). entriesBy o i σ ≡ tableEntry (holding (x .position) o) i σ) (sym is) (served-entry s x l k sv i σ hi hσ)
 
-  begins : Kept (begin s x l) (firstArrays s x l) (begin s x l)
-  begins live =
-      subst (λ (o : OpenOutcome). Open (stateBy o) (arraysBy o) (stateBy o)) (sym is)
-      (record {
+  -- Arrays that have, on the open volumes, what stands on the device.
+  abbrev Begins : Arrays → OpenOutcome → Type 0
+  Begins arrays o = (j b : ℕ) → j ≤ k → b < blockCount g j → arrays j b ≡ arraysBy o j b
+
+  begins : (arrays : Arrays) → Begins arrays (opens s x l) → Kept (begin s x l) arrays (begin s x l)
+  begins arrays same live =
+      subst (λ (o : OpenOutcome). Begins arrays o → Open (stateBy o) arrays (stateBy o)) (sym is)
+      (λ first. record {
         stands = served-stands s x l k sv;
         sound = served-sound s x l k sv;
         session = refl;
         header = λ a n fits. refl;
         holds = λ j b oj hb.
-            ap (λ (ψ : ℕ). deciphered g (keyOf (openedBy s x l k sv .session) j) ψ (offsetOf g b) s)
+            first j b oj hb
+            ∙ ap (λ (ψ : ℕ). deciphered g (keyOf (openedBy s x l k sv .session) j) ψ (offsetOf g b) s)
             (served-entry s x l k sv j (sliceOf g b) oj (sliceOf-lt g (served-taken s x l k sv .good) b hb));
       })
+      same
+
+  -- Every answer of a list is the one that such arrays give.
+  pub begins-due : (arrays : Arrays) → Begins arrays (opens s x l) → (cs : List Call)
+      → AllDue arrays (begin s x l) cs × Kept (begin s x l) (arraysAfterAll arrays (events (begin s x l) cs)) (final (begin s x l) cs)
+  begins-due arrays same cs = run-due (begin s x l) cs (begin s x l) arrays (begins arrays same)
 
   geometry-is : geometry (holds s x l) ≡ g
   geometry-is = ap (λ (o : OpenOutcome). o .session .geometry) is
@@ -75,7 +86,7 @@ module _ (s : List ℕ) (x : Handed) (l : Lent) (k : ℕ) (sv : Served s x l k) 
 
   run : (cs : List Call) → Run s x l k cs
   run cs =
-      let r = run-due (begin s x l) cs (begin s x l) (firstArrays s x l) begins in
+      let r = begins-due (firstArrays s x l) (λ j b hj hb. refl) cs in
       record {
         due = r .0;
         held = run-held cs (begin s x l);
@@ -177,7 +188,7 @@ pub no-slice-twice : NoSliceTwice
 unfolding outcome
 no-slice-twice s x l k e cs =
     let u = final (begin s x l) cs in
-    let kept = run-due (begin s x l) cs (begin s x l) (firstArrays s x l) (begins s x l k (served s x l k e)) .1 in
+    let kept = begins-due s x l k (served s x l k e) (firstArrays s x l) (λ j b hj hb. refl) cs .1 in
     record {
       apart = λ live. kept live .sound .apart;
       fresh = λ i a text perm tape ψ probes w j hj m.

@@ -63,6 +63,11 @@ pub refutes-passed : {P : Type 0} {b : Bool} → Refutes P b → b ≡ false →
 refutes-passed (passes p) e = p
 refutes-passed (refutes f) e = absurd (false≢true (sym e))
 
+-- What is tested and does not fail holds.
+pub refutes-stable : {P : Type 0} {b : Bool} → Refutes P b → ((P → ⊥) → ⊥) → P
+refutes-stable (passes p) k = p
+refutes-stable (refutes f) k = absurd (k f)
+
 pub not-refutes : {P : Type 0} {b : Bool} → Reflects P b → Refutes P (not b)
 not-refutes (holds p) = passes p
 not-refutes (fails f) = refutes f

@@ -161,3 +161,12 @@ load-same p e e′ zero n maps owners same = refl
 load-same p e e′ (suc left) n maps owners same =
     ap₂ (λ (x : ℕ) (next : List ℕ → List ℕ → Loaded). settle p x n maps owners next) (same n (omega arith) (omega arith))
     (fun-ext λ a. fun-ext λ b. load-same p e e′ left (suc n) a b (λ m l k. same m (omega arith) (omega arith)))
+
+-- Entries that are all the mark leave the tables.
+pub load-marks : (p : ℕ) (e : ℕ → ℕ) (left n : ℕ) (maps owners : List ℕ) → ((m : ℕ) → n ≤ m → m < n + left → e m ≡ unmapped)
+    → load p e left n maps owners ≡ Tables maps owners
+unfolding load
+load-marks p e zero n maps owners marks = refl
+load-marks p e (suc left) n maps owners marks =
+    ap (λ (x : ℕ). settle p x n maps owners (load p e left (suc n))) (marks n (omega arith) (omega arith))
+    ∙ load-marks p e left (suc n) maps owners (λ m l k. marks m (omega arith) (omega arith))

@@ -9,16 +9,18 @@ use Rattle.model.specs.declared.Geometry.{Geometry}
 use Rattle.model.specs.declared.Session.{Session}
 use Rattle.model.specs.declared.Change.the-variants.{Claimed, Rewritten}
 use Rattle.model.specs.Parts.{part, patched}
-use Rattle.model.specs.Geometry.{cellOf, headerOf, sliceStart, sliceSize}
-use Rattle.model.specs.Session.{Held, held, geometry, keyOf, blockCount, entry, entryOf, sliceOf, offsetOf, unmapped}
-use Rattle.model.specs.Conditions.{TablesFit, FirstFree, Names, sliceAt}
+use Rattle.model.specs.Geometry.{Allowed, deviceLength, cellOf, headerOf, sliceStart, sliceSize}
+use Rattle.model.specs.Session.{Held, held, geometry, keyIn, keyOf, blockCount, entry, entryOf, sliceOf, offsetOf, unmapped}
+use Rattle.model.specs.Conditions.{TablesFit, Enough, FirstFree, Names, sliceAt}
 use Rattle.model.specs.Opening.{OpenOutcome, OpenTo, openModel, storedEntry}
 use Rattle.model.specs.Read.{ReadResult, Filled, readModel, findModel, deciphered}
 use Rattle.model.specs.Write.{WriteResult, writeModel}
 use Rattle.model.specs.Close.{CloseResult, closeModel}
+use Rattle.model.specs.Format.{Formatted, formatModel}
 use Rattle.guarantees.specs.Runs.{State, Call, Writing, Closing, Writes, Closes, outcome, next, final, events, positions, writtenByAll, Within}
-use Rattle.guarantees.specs.Rules.{First, readRules, writeRules, closeRules, SearchEnds, heldEntry, ivIn, blockIn}
+use Rattle.guarantees.specs.Rules.{First, readRules, writeRules, closeRules, formatTape, SearchEnds, heldEntry, ivIn, blockIn}
 use Rattle.guarantees.specs.Openings.{Lowest, Unlocked, OpenAnswered}
+use Rattle.guarantees.specs.Making.{FormatAnswered}
 use Rattle.guarantees.specs.Effects.{heldAfterAll, storedByAll, Follows}
 use Rattle.guarantees.specs.Arrays.{Arrays, arraysAfterAll, AllDue}
 
@@ -72,7 +74,9 @@ pub record Point1 : Type 0 where
   pub writes : (device : ℕ) (h : Held) (i a : ℕ) (text perm tape : List ℕ)
       → WriteAnswered device h i a text perm tape (writeModel device h i a text perm tape .answer)
   pub closes : (device : ℕ) (h : Held) (tape : List ℕ) → CloseAnswered device h tape (closeModel device h tape .answer)
-  -- What each call stores and leaves, in any session, also one that no opening gave: refused, nothing.
+  pub formats : (device : ℕ) (g : Geometry) (n : ℕ) (keys tape : List ℕ) (position : ℕ)
+      → FormatAnswered device g n keys tape position (formatModel device g n keys tape position)
+  -- What each request stores and leaves, in any session, also one that no opening gave: refused, nothing.
   pub follows : (st : State) (c : Call) → Follows (st .held) (outcome st c)
 
 -- ---- a served opening
@@ -189,6 +193,50 @@ pub record Guarantee (s : List ℕ) (x : Handed) (l : Lent) (k : ℕ) : Type 0 w
 
 abbrev pub Points23 : Type 0
 Points23 = (s : List ℕ) (x : Handed) (l : Lent) (k : ℕ) → opens s x l .answer ≡ OpenTo k → Guarantee s x l k
+
+-- ---- formatting: points 2 and 3 for sessions opened afterwards
+
+-- An opening to volume i finds nothing mapped and nothing owned, and every block of volumes 0 to i is zeros.
+pub record Blank (made : List ℕ) (x : Handed) (l : Lent) (i : ℕ) : Type 0 where
+  pub served : opens made x l .answer ≡ OpenTo i
+  pub maps : opens made x l .maps ≡ replicate (15 * x .geometry .p) unmapped
+  pub owners : opens made x l .owners ≡ replicate (x .geometry .p) 0
+  pub zeros : (j a : ℕ) → j ≤ i → a < blockCount (x .geometry) j → firstArrays made x l j a ≡ replicate (x .geometry .b) 0
+
+-- A device that was formatted with n keys, opened with key i below n, a permutation that names each slice and tables of the right
+-- lengths.
+pub record FormattedFor (made : List ℕ) (x : Handed) (l : Lent) (i : ℕ) : Type 0 where
+  pub device : ℕ
+  pub n : ℕ
+  pub keys : List ℕ
+  pub tape : List ℕ
+  pub position : ℕ
+  pub after : ℕ
+  pub formatted : formatModel device (x .geometry) n keys tape position ≡ Formatted made after
+  pub below : i < n
+  pub key : x .key ≡ keyIn keys i
+  pub names : Names (x .geometry .p) (x .perm)
+  pub tables : TablesFit (x .geometry) (length (l .maps)) (length (l .owners))
+
+-- The device opens with key i to volumes 0 to i, all zero.
+abbrev pub FormattedOpens : Type 0
+FormattedOpens = (made : List ℕ) (x : Handed) (l : Lent) (i : ℕ) → FormattedFor made x l i → Blank made x l i
+
+-- From making to reading: over every list of calls each volume is an array that begins with zeros, and points 2 and 3 hold.
+pub record FromMaking (made : List ℕ) (x : Handed) (l : Lent) (i : ℕ) : Type 0 where
+  pub due : (cs : List Call) → AllDue (λ j a. replicate (x .geometry .b) 0) (begin made x l) cs
+  pub guarantee : Guarantee made x l i
+
+pub record FormatPoints : Type 0 where
+  pub blank : FormattedOpens
+  pub runs : (made : List ℕ) (x : Handed) (l : Lent) (i : ℕ) → FormattedFor made x l i → FromMaking made x l i
+  -- With one key there is no lower cell: a right geometry, a key and a long enough tape are served.
+  pub one-key : (g : Geometry) → Allowed g → (key tape : List ℕ) (position : ℕ) → length key ≡ 32
+      → Enough (length tape) position (formatTape g 1)
+      → (made : List ℕ) × (formatModel (deviceLength g) g 1 key tape position ≡ Formatted made (position + formatTape g 1))
+  -- So a device that opens exists, of every geometry and for every key.
+  pub some-opens : (x : Handed) (l : Lent) → Allowed (x .geometry) → length (x .key) ≡ 32 → Names (x .geometry .p) (x .perm)
+      → TablesFit (x .geometry) (length (l .maps)) (length (l .owners)) → (device : List ℕ) × (opens device x l .answer ≡ OpenTo 0)
 
 -- ---- the accident of the case: a slice that two volumes hold
 

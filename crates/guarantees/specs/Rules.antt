@@ -1,6 +1,6 @@
 -- Point 1 (README.md, "What is proved"): the listed refusals of each call in their listed order, each with its condition
--- (document 01, "Refused for ..", and the orders of the calls). The conditions are the document's, in their own words and not the
--- model's. Assumes nothing.
+-- (document 01, "Refused for ..", and the orders of the calls; document 02, P1). The conditions are the documents', in their own words
+-- and not the model's. Assumes nothing.
 use Prim.Native.Nat.{ℕ, _+_, _*_, _≤_, _<_}
 use mathlib.Core.Path.{_≡_}
 use mathlib.Core.Logic.{_⊎_}
@@ -71,6 +71,21 @@ openRules g device key maps owners perm =
     ∷ rule 3 (key ≡ 32 → ⊥)
     ∷ rule 4 (TablesFit g maps owners → ⊥)
     ∷ rule 5 (Names (g .p) perm → ⊥)
+    ∷ []
+
+-- The tape bytes of a formatting with n keys: the device, and 88 + 16 × m for each volume (VMK 32, VEK 32, the IV of its cell 12, that
+-- of its header 12, those of its map blocks 16 each).
+abbrev pub formatTape : Geometry → (n : ℕ) → ℕ
+formatTape g n = deviceLength g + n * (88 + 16 * mapBlocks g)
+
+-- Formatting: 1, 2, 23, 3, 21; what follows them, 24, is said by the cells.
+abbrev pub formatRules : (device : ℕ) → Geometry → (n keys tape position : ℕ) → List Rule
+formatRules device g n keys tape position =
+    rule 1 (Allowed g → ⊥)
+    ∷ rule 2 (device ≡ deviceLength g → ⊥)
+    ∷ rule 23 ((n ≡ 0) ⊎ (15 < n))
+    ∷ rule 3 (keys ≡ 32 * n → ⊥)
+    ∷ rule 21 (Enough tape position (formatTape g n) → ⊥)
     ∷ []
 
 -- Read: 20, 2, 4, 11, 12, 13, 9.

@@ -1,6 +1,6 @@
 // The guarantees: the three points (README.md, "What is proved") as theorems about the model, points 2 and 3 about lists of calls.
 // Each function here runs nothing; its `ensures` is the statement that the check has to prove.
-ghost use Rattle.guarantees.specs.Points.{Point1, Points23, NoSliceTwice};
+ghost use Rattle.guarantees.specs.Points.{Point1, Points23, FormatPoints, NoSliceTwice};
 
 // Point 1: any call with any arguments is served or refused by the first listed refusal that applies, and what it stores and
 // leaves follows from its answer.
@@ -11,6 +11,11 @@ pub fn point_one()
 // Points 2 and 3, from a served opening on.
 pub fn points_two_and_three()
     ensures { λ r. ⌜ Points23 ⌝ }
+{}
+
+// Formatting: the device opens with each of its keys to volumes of zeros, and points 2 and 3 hold from there on.
+pub fn formatted_sticks()
+    ensures { λ r. ⌜ FormatPoints ⌝ }
 {}
 
 // The accident of the case: over every list of calls no slice is held twice, and a claim takes a slice that nobody holds.

@@ -89,6 +89,11 @@ module _ (g : Geometry) (ok : Allowed g) where
   unfolding deviceLength headerBlocks
   header-fits i l = omega (arith, mul-le-mul-left {m = i + 1} {n = 15} (g .b * (1 + mapBlocks g)) (omega arith))
 
+  -- The headers end on the device.
+  pub headers-fit : (n : ℕ) → n ≤ 15 → headerStart g n ≤ deviceLength g
+  unfolding deviceLength headerBlocks
+  headers-fit n l = omega (arith, mul-le-mul-left (g .b * (1 + mapBlocks g)) l)
+
   pub maps-fit : (i : ℕ) → i ≤ 14 → mapStart g i + g .b * mapBlocks g ≤ deviceLength g
   unfolding mapStart
   maps-fit i l = omega (arith, header-fits i l)

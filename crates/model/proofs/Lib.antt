@@ -8,4 +8,5 @@ pub mod Searches
 pub mod Blocks
 pub mod MapBlocks
 pub mod Seals
+pub mod Drawn
 pub mod Keys

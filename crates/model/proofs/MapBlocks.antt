@@ -1,15 +1,17 @@
--- A map block: its length, and its entries as those of a row of the map table, the mark past the last. Assumes nothing.
+-- A map block: its length, its entries as those of a row of the map table, the mark past the last, and its bytes where nothing is
+-- mapped. Assumes nothing.
 use Prim.Native.Nat.{ℕ, zero, suc, _+_, _-_, _*_, _%_, _^_, _≤_, _<_}
 use mathlib.Core.Path.{_≡_, refl, sym, ap, ap₂, _∙_}
 use mathlib.Core.List.{List, [], _∷_, _++_}
 use mathlib.Core.Logic.{⊎-elim}
 use native.Mathlib.Nat.{zero-add, mod-eq-of-lt}
+use lib.Arith.{digits-lt}
 use native.Mathlib.Omega.{arith}
 use lib.Dec.{ltb}
-use lib.ListN.{length, getD, drop, length-append, List·getD-eq-default}
+use lib.ListN.{length, getD, drop, replicate, length-append, getD-replicate, List·getD-eq-default}
 use lib.Seq.{getD-take, getD-drop}
 use borrow.Author.Tests.{lt-ltb, le-ltb}
-use Rattle.block.specs.Bytes.{number}
+use Rattle.block.specs.Bytes.{number, bigEndian}
 use Rattle.block.proofs.Bytes.{number-bigEndian, bigEndian-length}
 use Rattle.ctr.specs.CounterMode.{ctr}
 use Rattle.ctr.proofs.Stream.{ctr-length}
@@ -17,8 +19,9 @@ use Rattle.model.specs.declared.Geometry.{Geometry}
 use Rattle.model.specs.Parts.{choose, part, joined}
 use Rattle.model.specs.Geometry.{Allowed, perBlock, fourBytes}
 use Rattle.model.specs.Session.{entry, unmapped}
+use Rattle.model.specs.Opening.{noMaps}
 use Rattle.model.specs.Close.{mapText, mapBlock}
-use Rattle.model.proofs.Parts.{joined-length, joined-ext, part-length}
+use Rattle.model.proofs.Parts.{joined-length, joined-ext, joined-replicate, part-length}
 use Rattle.model.proofs.Tests.{below}
 use Rattle.model.proofs.Bounds.{b-bounds, entries-fill}
 
@@ -27,7 +30,7 @@ pub fourBytes-number : (x : ℕ) → x < 256 ^ 4 → number (fourBytes x) ≡ x
 fourBytes-number x l = number-bigEndian 0 4 x ∙ zero-add (x % 256 ^ 4) ∙ mod-eq-of-lt l
 
 -- Within a list the default does not matter.
-getD-inside : (l : List ℕ) (n d d′ : ℕ) → n < length l → getD l n d ≡ getD l n d′
+pub getD-inside : (l : List ℕ) (n d d′ : ℕ) → n < length l → getD l n d ≡ getD l n d′
 getD-inside [] n d d′ h = absurd (omega arith)
 getD-inside (x ∷ l) zero d d′ h = refl
 getD-inside (x ∷ l) (suc n) d d′ h = getD-inside l n d d′ (omega arith)
@@ -70,3 +73,24 @@ module _ (maps : List ℕ) (g : Geometry) (i t : ℕ) where
     mapBlock-row key iv =
         ap (λ (text : List ℕ). iv ++ ctr key iv text)
         (joined-ext (perBlock g) entryBytes _ (λ e h. ap fourBytes (entry-row (t * perBlock g + e))))
+
+-- ---- a map that holds nothing
+
+-- The marks of a map block are bytes FF.
+pub marks-joined : (g : Geometry) → Allowed g → joined (perBlock g) (λ e. fourBytes unmapped) ≡ replicate (g .b - 16) 0xFF
+unfolding bigEndian
+marks-joined g ok = joined-replicate (perBlock g) 4 0xFF ∙ ap (λ (n : ℕ). replicate n 0xFF) (entries-fill g ok)
+
+-- Every entry of a map that holds nothing is the mark, and so all bytes of its blocks are FF.
+pub mapText-marks : (g : Geometry) (i t : ℕ) → i < 15 → mapText (noMaps g) g i t ≡ joined (perBlock g) (λ e. fourBytes unmapped)
+unfolding mapText
+mapText-marks g i t l =
+    joined-ext (perBlock g) (entryBytes (noMaps g) g i t) (λ e. fourBytes unmapped) (λ e h. ap fourBytes (mark (t * perBlock g + e)))
+  where
+    mark : (σ : ℕ) → choose (ltb σ (g .p)) (entry (noMaps g) g i σ) unmapped ≡ unmapped
+    mark σ =
+        ⊎-elim (λ h. rw (lt-ltb σ (g .p) h) (getD-replicate (15 * g .p) (i * g .p + σ) unmapped 0 (digits-lt l h)))
+        (λ h. rw (le-ltb σ (g .p) h) refl) (below σ (g .p))
+
+pub mapText-empty : (g : Geometry) → Allowed g → (i t : ℕ) → i < 15 → mapText (noMaps g) g i t ≡ replicate (g .b - 16) 0xFF
+mapText-empty g ok i t l = mapText-marks g i t l ∙ marks-joined g ok

@@ -7,6 +7,7 @@ use Rattle.model.specs.declared.Geometry.{Geometry}
 use Rattle.model.specs.declared.Session.{Session}
 use Rattle.model.specs.Geometry.{badGeometry}
 use Rattle.model.specs.Session.{standing, unless}
+use Rattle.model.specs.Format.{formatRefusal}
 
 geometry-first : (n : ℕ) (g : Geometry) (chain : ℕ → ℕ) → Stands-first chain → Stands-first (λ rest. badGeometry n g (chain rest))
 unfolding badGeometry
@@ -26,6 +27,17 @@ standing-first device maps owners s =
     (refuse-first _ 2 _
     (refuse-first _ 4 _
     (refuse-first _ 4 (λ rest. rest) rest-first)))))
+
+pub formatRefusal-first : (device : ℕ) (g : Geometry) (n keys tape position : ℕ) → 0 < formatRefusal device g n keys tape position 0
+    → (rest : ℕ) → formatRefusal device g n keys tape position rest ≡ formatRefusal device g n keys tape position 0
+unfolding formatRefusal
+formatRefusal-first device g n keys tape position =
+    geometry-first 1 g _
+    (refuse-first _ 2 _
+    (refuse-first _ 23 _
+    (refuse-first _ 23 _
+    (refuse-first _ 3 _
+    (refuse-first _ 21 (λ rest. rest) rest-first)))))
 
 -- What a refusal gives.
 pub unless-refused : {A : Type 0} (n : ℕ) (refusal : ℕ → A) (served : A) → 0 < n → unless n refusal served ≡ refusal n

@@ -4,9 +4,9 @@ use mathlib.Core.Path.{_≡_, refl, sym, ap, ap₂, _∙_}
 use mathlib.Core.List.{List, [], _∷_, _++_}
 use mathlib.Core.Logic.{⊎-elim}
 use native.Mathlib.Omega.{arith}
-use native.Mathlib.Nat.{eq-or-lt-of-le, le-of-suc-le-suc, le-of-eq, zero-add, zero-mul, suc-add, suc-mul, mul-le-mul-right, add-zero}
-use lib.ListN.{length, take, drop, getD, replicate, length-append, length-take, length-drop}
-use lib.Seq.{take-append-le, drop-append-le, drop-append-add, drop-drop, drop-at, take-all}
+use native.Mathlib.Nat.{eq-or-lt-of-le, le-of-suc-le-suc, le-of-eq, zero-add, zero-mul, suc-add, suc-mul, mul-le-mul-right, mul-comm, add-zero}
+use lib.ListN.{length, take, drop, getD, replicate, length-append, length-take, length-drop, replicate-append-replicate}
+use lib.Seq.{take-append-le, drop-append-le, drop-append-add, drop-drop, drop-at, take-add, take-all}
 use Rattle.model.specs.Parts.{part, overlay, Patch, patched, joined}
 
 -- ---- part
@@ -54,6 +54,10 @@ module _ {ℓ} {A : Type ℓ} where
 
   pub part-part : (s : List A) (a w x n : ℕ) → x + n ≤ w → part x n (part a w s) ≡ part (a + x) n s
   part-part s a w x n h = part-take (drop a s) w x n h ∙ ap (take n) (drop-drop x a s)
+
+  -- A part is its first x elements, then the y from place b on.
+  pub part-split : (s : List A) (a x y b : ℕ) → a + x ≡ b → part a (x + y) s ≡ part a x s ++ part b y s
+  part-split s a x y b e = take-add x y (drop a s) ∙ ap (λ (l : List A). part a x s ++ take y l) (drop-drop x a s ∙ ap (λ (c : ℕ). drop c s) e)
 
   -- Lists of one length that agree on a range have equal parts there.
   pub part-agree : (z : A) (s t : List A) (a n : ℕ) → length s ≡ length t → ((p : ℕ) → a ≤ p → p < a + n → getD s p z ≡ getD t p z)
@@ -183,6 +187,11 @@ module _ {ℓ} {A : Type ℓ} (z : A) where
 
 -- ---- patches
 
+pub patched-length : (ps : List Patch) (s : List ℕ) → length (patched ps s) ≡ length s
+unfolding patched
+patched-length [] s = refl
+patched-length (x ∷ ps) s = patched-length ps (overlay s (x .at) (x .bytes)) ∙ overlay-length s (x .at) (x .bytes)
+
 pub patched-++ : (ps qs : List Patch) (s : List ℕ) → patched (ps ++ qs) s ≡ patched qs (patched ps s)
 unfolding patched
 patched-++ [] qs s = refl
@@ -195,9 +204,26 @@ unfolding joined
 joined-ext zero f f′ e = refl
 joined-ext {A = A} (suc n) f f′ e = ap₂ (λ (p q : List A). p ++ q) (joined-ext n f f′ (λ j h. e j (omega arith))) (e n (omega arith))
 
+pub joined-replicate : (n w x : ℕ) → joined n (λ j. replicate w x) ≡ replicate (n * w) x
+unfolding joined
+joined-replicate zero w x = ap (λ (k : ℕ). replicate k x) (sym (zero-mul w))
+joined-replicate (suc n) w x =
+    ap (λ (l : List ℕ). l ++ replicate w x) (joined-replicate n w x)
+    ∙ replicate-append-replicate (n * w) w x
+    ∙ ap (λ (k : ℕ). replicate k x) (sym (suc-mul n w))
+
 -- Where each piece has w elements.
 
 module _ {ℓ} {A : Type ℓ} (w : ℕ) where
+  -- A part of n × w elements is its n parts of w, end to end.
+  pub part-joined : (s : List A) (a n : ℕ) (f : ℕ → List A) → ((j : ℕ) → j < n → part (a + w * j) w s ≡ f j) → part a (n * w) s ≡ joined n f
+  unfolding joined
+  part-joined s a zero f e = ap (λ (k : ℕ). part a k s) (zero-mul w)
+  part-joined s a (suc n) f e =
+      ap (λ (k : ℕ). part a k s) (suc-mul n w)
+      ∙ part-split s a (n * w) w (a + w * n) (ap (λ (k : ℕ). a + k) (mul-comm n w))
+      ∙ ap₂ (λ (p q : List A). p ++ q) (part-joined s a n f (λ j h. e j (omega arith))) (e n (omega arith))
+
   pub joined-length : (n : ℕ) (f : ℕ → List A) → ((j : ℕ) → j < n → length (f j) ≡ w) → length (joined n f) ≡ n * w
   unfolding joined
   joined-length zero f e = sym (zero-mul w)
@@ -221,8 +247,3 @@ module _ {ℓ} {A : Type ℓ} (w : ℕ) where
       earlier l ih =
           let fits : j * w + w ≤ length (joined n f) = rw (long, ← suc-mul j w) (mul-le-mul-right w l) in
           part-left (joined n f) (f n) (j * w) w fits ∙ ih
-
-  -- A part of one piece.
-  pub joined-piece : (n : ℕ) (f : ℕ → List A) → ((j : ℕ) → j < n → length (f j) ≡ w) → (j : ℕ) → j < n → (x u : ℕ) → x + u ≤ w
-      → part (j * w + x) u (joined n f) ≡ part x u (f j)
-  joined-piece n f e j l x u h = sym (part-part (joined n f) (j * w) w x u h) ∙ ap (part x u) (joined-part n f e j l)

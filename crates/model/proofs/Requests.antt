@@ -1,6 +1,6 @@
 -- Laws of the refusals of each call: what holds where none of them applies. Assumes nothing.
-use Prim.Native.Nat.{ℕ, _-_, _≤_, _<_}
-use mathlib.Core.Path.{_≡_, ap, _∙_}
+use Prim.Native.Nat.{ℕ, _-_, _*_, _≤_, _<_}
+use mathlib.Core.Path.{_≡_, refl, ap, _∙_}
 use mathlib.Core.List.{List}
 use mathlib.Core.Bool.{true, false, not}
 use mathlib.Core.Logic.{⊎-elim}
@@ -18,6 +18,7 @@ use Rattle.model.specs.Opening.{missing, openRefusal}
 use Rattle.model.specs.Read.{readRefusal}
 use Rattle.model.specs.Write.{writeRefusal}
 use Rattle.model.specs.Close.{closeNeed, closeRefusal}
+use Rattle.model.specs.Format.{formatNeed, formatRefusal}
 use Rattle.model.proofs.Tests.{or-true, or-false, equal-passes, badGeometry-none, badGeometry-allowed, badEntry-false, badEntry-fits}
 use Rattle.model.proofs.Bounds.{slot-lt, sliceOf-lt}
 
@@ -103,6 +104,10 @@ short-true tape position need e l =
     ⊎-elim (λ q. omega (arith, ltb-true tape position q)) (λ q. omega (arith, ltb-true (tape - position) need q))
     (or-true (ltb tape position) (ltb (tape - position) need) e)
 
+short-enough : (tape position need : ℕ) → Enough tape position need → short tape position need ≡ false
+unfolding short
+short-enough tape position need l = rw (le-ltb tape position (omega arith), le-ltb (tape - position) need (omega arith)) refl
+
 -- ---- read and find
 
 module _ (device : ℕ) (maps owners : List ℕ) (s : Session) (i a len : ℕ) where
@@ -182,6 +187,44 @@ openRefusal-none g device key maps owners perm e =
       places = eqb-true _ _ (not-false _ (p6 .0));
       named = p7 .0;
     }
+
+-- ---- formatting: 1, 2, 23, 3, 21
+
+module _ (device : ℕ) (g : Geometry) (n keys tape position : ℕ) where
+  -- What a formatting may be handed.
+  pub record Formattable : Type 0 where
+    pub allowed : Allowed g
+    pub long : device ≡ deviceLength g
+    pub count : (1 ≤ n) × (n ≤ 15)
+    pub keyed : keys ≡ 32 * n
+    pub enough : Enough tape position (formatNeed g n)
+
+  pub formatRefusal-none : (rest : ℕ) → formatRefusal device g n keys tape position rest ≡ 0 → Formattable
+  unfolding formatRefusal
+  formatRefusal-none rest e =
+      let p1 = badGeometry-none _ _ _ e in
+      let p2 = refuse-none _ _ _ (p1 .1) in
+      let p3 = refuse-none _ _ _ (p2 .1) in
+      let p4 = refuse-none _ _ _ (p3 .1) in
+      let p5 = refuse-none _ _ _ (p4 .1) in
+      let p6 = refuse-none _ _ _ (p5 .1) in
+      record {
+        allowed = p1 .0;
+        long = eqb-true _ _ (not-false _ (p2 .0));
+        count = (ltb-false _ _ (p3 .0), ltb-false _ _ (p4 .0));
+        keyed = eqb-true _ _ (not-false _ (p5 .0));
+        enough = short-false _ _ _ (p6 .0);
+      }
+
+  pub formatRefusal-rest : Formattable → (rest : ℕ) → formatRefusal device g n keys tape position rest ≡ rest
+  unfolding formatRefusal
+  formatRefusal-rest q rest =
+      badGeometry-allowed _ _ _ (q .allowed)
+      ∙ refuse-false _ _ _ (equal-passes _ _ (q .long))
+      ∙ refuse-false _ _ _ (le-ltb _ _ (q .count .0))
+      ∙ refuse-false _ _ _ (le-ltb _ _ (q .count .1))
+      ∙ refuse-false _ _ _ (equal-passes _ _ (q .keyed))
+      ∙ refuse-false _ _ _ (short-enough _ _ _ (q .enough))
 
 -- ---- the entry of an asked block
 

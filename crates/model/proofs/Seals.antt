@@ -4,19 +4,20 @@ use mathlib.Core.Path.{_≡_, sym, ap, ap₂, _∙_}
 use mathlib.Core.List.{List, [], _∷_, _++_}
 use native.Mathlib.Nat.{add-zero, add-assoc, mul-comm, mul-le-mul-left}
 use native.Mathlib.Omega.{arith}
-use lib.ListN.{length}
+use lib.ListN.{length, length-append}
 use lib.Arith.{digits-div, digits-mod}
 use Rattle.block.specs.Bytes.{number}
 use Rattle.block.proofs.Bytes.{bigEndian-length}
 use Rattle.ctr.specs.CounterMode.{ctr}
 use Rattle.ctr.proofs.Stream.{ctr-twice, ctr-length}
-use Rattle.gcm.specs.Gcm.{Text, gcmOpen}
-use Rattle.gcm.proofs.Gctr.{text-twice}
+use Rattle.gcm.specs.Gcm.{Text, gcmText, gcmTag, gcmOpen}
+use Rattle.gcm.proofs.Gctr.{text-twice, text-length, tag-length}
 use Rattle.gcm.proofs.Same.{open-sealed, open-right}
 use Rattle.model.specs.declared.Geometry.{Geometry}
 use Rattle.model.specs.Parts.{part, joined}
 use Rattle.model.specs.Geometry.{Allowed, perBlock, mapBlocks, numberAt, fourBytes, cellStart, cellOf, headerStart, headerOf, mapStart}
 use Rattle.model.specs.Opening.{openCell, openHeader, storedEntry}
+use Rattle.model.specs.Format.{sealed}
 use Rattle.model.specs.Theorems.{HeaderText, Sealed}
 use Rattle.model.proofs.Bounds.{b-bounds, entries-fill}
 use Rattle.model.proofs.Parts.{part-right, part-first, part-next, part-last, part-part, joined-length, joined-part}
@@ -53,6 +54,46 @@ module _ (key : List ℕ) (i at n w : ℕ) (device text : List ℕ) (wide : 28 +
   opens-sealed e =
       let q = open-right _ _ _ _ _ text (rw (iv-is, cipher-is, tag-is) at e) in
       record { cipher = sym (rw (q .0) (text-twice key (part at 12 device) (part (at + 12) n device))); tag = q .1 }
+
+-- A text of n bytes as formatting seals it, under an IV of 12 bytes.
+module _ (key iv : List ℕ) (i n : ℕ) (text : List ℕ) (ivl : length iv ≡ 12) (textl : length text ≡ n) where
+  abbrev ciphertext : List ℕ
+  ciphertext = gcmText key iv text
+
+  abbrev tag : List ℕ
+  tag = gcmTag key iv (i ∷ []) ciphertext
+
+  ciphertext-length : length ciphertext ≡ n
+  ciphertext-length = text-length key iv text ∙ textl
+
+  pub sealed-length : length (sealed key iv i text) ≡ 28 + n
+  unfolding sealed
+  sealed-length =
+      omega (arith, length-append iv (ciphertext ++ tag), length-append ciphertext tag, ciphertext-length, tag-length key iv (i ∷ []) ciphertext)
+
+  -- From a place on where it stands is what Sealed says, with its IV.
+  module _ (at : ℕ) (device : List ℕ) (stands : part at (28 + n) device ≡ sealed key iv i text) where
+    pub stands-iv : part at 12 device ≡ iv
+    unfolding sealed
+    stands-iv = sym (iv-is key i at n (28 + n) device text (omega arith)) ∙ ap (part 0 12) stands ∙ part-first iv _ 12 ivl
+
+    stands-cipher : part (at + 12) n device ≡ ciphertext
+    unfolding sealed
+    stands-cipher =
+        sym (cipher-is key i at n (28 + n) device text (omega arith))
+        ∙ ap (part 12 n) stands
+        ∙ part-next iv ciphertext tag 12 n ivl ciphertext-length
+
+    stands-tag : part (at + 12 + n) 16 device ≡ tag
+    unfolding sealed
+    stands-tag =
+        sym (tag-is key i at n (28 + n) device text (omega arith))
+        ∙ ap (part (12 + n) 16) stands
+        ∙ part-right iv (ciphertext ++ tag) 12 ivl n 16
+        ∙ part-last ciphertext tag n 16 ciphertext-length (tag-length key iv (i ∷ []) ciphertext)
+
+    pub stands-sealed : Sealed key i at n device text
+    stands-sealed = record { cipher = rw (stands-iv, stands-cipher); tag = rw (stands-iv, stands-cipher, stands-tag) }
 
 pub cell-opens : (device key vmk : List ℕ) (i : ℕ) → Sealed key i (cellStart i) 32 device vmk → openCell key i (cellOf device i) ≡ Text vmk
 cell-opens device key vmk i = sealed-opens key i (cellStart i) 32 60 device vmk (omega arith)

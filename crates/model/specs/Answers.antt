@@ -18,6 +18,7 @@ use Rattle.model.specs.Opening.{OpenResult, OpenTo, NotOpened, OpenOutco
 use Rattle.model.specs.Read.{ReadResult, Filled, Refused}
 use Rattle.model.specs.Write.{WriteResult}
 use Rattle.model.specs.Close.{CloseResult, Closed}
+use Rattle.model.specs.Format.{FormatResult, Formatted}
 
 -- Opening: k, or the refusal's number.
 abbrev pub openResult : OpenAnswer → OpenResult
@@ -49,6 +50,20 @@ abbrev pub readBuffer : ReadResult → List ℕ → List ℕ
 readBuffer (Filled bytes) old = bytes
 readBuffer (Refused n) old = old
 
+-- Formatting: the refusal's number, 0 where the device was made.
+abbrev pub formatNumber : FormatResult → ℕ
+formatNumber (Formatted device position) = 0
+formatNumber (FormatResult.Refused n) = n
+
+-- The device and the tape position after a formatting; a refused one leaves both.
+abbrev pub formatDevice : FormatResult → List ℕ → List ℕ
+formatDevice (Formatted device position) old = device
+formatDevice (FormatResult.Refused n) old = old
+
+abbrev pub formatPosition : FormatResult → ℕ → ℕ
+formatPosition (Formatted device position) old = position
+formatPosition (FormatResult.Refused n) old = old
+
 -- What an opening has to leave: answer, tables and session.
 pub record OpenLeaves (o : OpenOutcome) (answer : OpenResult) (maps owners : List ℕ) (session : Session) : Type 0 where
   pub answered : answer ≡ o .answer
@@ -65,3 +80,9 @@ pub record Leaves (A : Type 0) (o : Outcome A) (before : List ℕ) (answer : A) 
   pub owned : owners ≡ o .held .owners
   pub moved : position ≡ o .held .position
   pub handed : session ≡ o .held .session
+
+-- What a formatting has to leave: the number of its answer, the device and the tape position.
+pub record FormatLeaves (r : FormatResult) (device₀ : List ℕ) (position₀ number : ℕ) (device : List ℕ) (position : ℕ) : Type 0 where
+  pub answered : number ≡ formatNumber r
+  pub stored : device ≡ formatDevice r device₀
+  pub moved : position ≡ formatPosition r position₀

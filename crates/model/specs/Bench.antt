@@ -1,5 +1,5 @@
--- The starred bench cases of document 01 ("Bench cases") as rows of one table, and rows for the places that they leave open.
--- Assumes nothing.
+-- The starred bench cases of document 01 ("Bench cases") as rows of one table, rows for the places that they leave open, and the
+-- limits of a formatting (document 02, P1). Assumes nothing.
 use Prim.Native.Nat.{ℕ, _+_, _*_}
 use mathlib.Core.Path.{_≡_}
 use mathlib.Core.Bool.{true}
@@ -17,6 +17,7 @@ use Rattle.model.specs.Geometry.{ivStart, blockStart}
 use Rattle.model.specs.Session.{held, unmapped, sliceOf, offsetOf, standing, asked, noKeys}
 use Rattle.model.specs.Write.{firstFree, claimOutcome, WriteResult}
 use Rattle.model.specs.Close.{closeRefusal, closedSession}
+use Rattle.model.specs.Format.{formatNeed, formatRefusal}
 
 -- A geometry by its three numbers, and stick A of the document.
 abbrev pub sized : (b s p : ℕ) → Geometry
@@ -42,6 +43,10 @@ sizes b s p = badGeometry 1 (sized b s p) 0
 
 abbrev pub inSession : Session → ℕ
 inSession s = standing 52224 60 4 s 0
+
+-- The refusal of a formatting of stick A with so many keys, of so many bytes, and a tape of so many.
+abbrev pub formats : (n keys tape : ℕ) → ℕ
+formats n keys tape = formatRefusal 52224 stickA n keys tape 0 0
 
 -- The refusal of a close with empty maps and k 1, with a tape of so many bytes.
 abbrev pub closing : (tape position : ℕ) → ℕ
@@ -112,6 +117,12 @@ cases =
     ∷ row (headerStart (sized 1024 4 253) 1 ∷ mapStart (sized 1024 4 253) 1 ∷ []) ((4 * 1024) ∷ (5 * 1024) ∷ [])
     -- A: the IV of block 3 of slice 2 is bytes 48 to 63 of device block 41, its blocks 0 and 1 are device blocks 42 and 43.
     ∷ row (ivStart stickA 2 3 ∷ blockStart stickA 2 0 ∷ blockStart stickA 2 1 ∷ []) ((41 * 1024 + 48) ∷ (42 * 1024) ∷ (43 * 1024) ∷ [])
+    -- A: no key and 16 keys are 23, 1 and 15 are served; keys of another length are 3, a short tape 21 (document 02, P1).
+    ∷ row (formats 0 0 60000 ∷ formats 16 512 60000 ∷ formats 1 32 60000 ∷ formats 15 480 60000 ∷ []) (23 ∷ 23 ∷ 0 ∷ 0 ∷ [])
+    ∷ row (formats 2 63 60000 ∷ formats 2 64 52431 ∷ formats 2 64 52432 ∷ []) (3 ∷ 21 ∷ 0 ∷ [])
+    -- A: formatting takes 52,224 + 104 tape bytes with 1 key, 52,224 + 15 × 104 with 15 (document 02, P1); P 253 (m 2): 120 for each.
+    ∷ row (formatNeed stickA 1 ∷ formatNeed stickA 15 ∷ formatNeed (sized 1024 4 253) 2 ∷ [])
+    (52328 ∷ 53784 ∷ (deviceLength (sized 1024 4 253) + 240) ∷ [])
     -- A: address 13 is offset 1 of logical slice 3.
     ∷ row (sliceOf stickA 13 ∷ offsetOf stickA 13 ∷ []) (3 ∷ 1 ∷ [])
     ∷ []

@@ -1,4 +1,4 @@
--- What each call of the engine answers and leaves, by document 01, and what is proved of it. The document's words and ours:
+-- What each call of the engine answers and leaves, by documents 01 and 02, and what is proved of it. The documents' words and ours:
 --
 --   stick            device: its bytes, as a list
 --   tape mark        tape position: the number of the next unused tape byte (`TapePosition`, `Held.position`)
@@ -13,9 +13,10 @@
 --   owner            0 for a free slice, i + 1 for one that volume i holds
 --   VMK, VEK         the master key and the data key of a volume
 --   cell, header     `cellOf` and `headerOf` a device: 60 bytes; 1 + m blocks
+--   drawn            the tape bytes of a formatting as one list, of which the device's noise, each key and each IV is a part
 --
--- A refusal is its number in document 01, 0 where none applies. What a call does to the device is a list of patches (place and
--- bytes), made from its arguments and the device's length alone.
+-- A refusal is its number in the documents, 0 where none applies. What a write or a close does to the device is a list of patches
+-- (place and bytes), made from its arguments and the device's length alone; a formatting gives the device whole.
 pub mod Parts
 pub mod Geometry
 pub mod Session
@@ -24,6 +25,7 @@ pub mod Conditions
 pub mod Read
 pub mod Write
 pub mod Close
+pub mod Format
 pub mod Answers
 pub mod Theorems
 pub mod Bench

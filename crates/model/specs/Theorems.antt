@@ -1,6 +1,7 @@
 -- What is proved of the definitions by themselves, so that a slip in one of them is refused here. Assumes nothing.
 use Prim.Native.Nat.{ℕ, _+_, _-_, _*_, _^_, _≤_, _<_}
 use mathlib.Core.Path.{_≡_}
+use mathlib.Core.Bool.{true, false}
 use mathlib.Core.List.{List, [], _∷_, _++_}
 use lib.Dec.{eqb}
 use lib.ListN.{length, getD, replicate}
@@ -24,7 +25,9 @@ use Rattle.model.specs.Opening.{OpenResult, OpenTo, NotOpened, OpenOutco
 use Rattle.model.specs.Read.{deciphered, Filled, Refused}
 use Rattle.model.specs.Write.{WriteResult, claimedBytes, claimed}
 use Rattle.model.specs.Close.{CloseResult, mapBlock}
+use Rattle.model.specs.Format.{lowerOpens, FormatResult, Formatted}
 use Rattle.model.specs.Answers.{openResult, changeSlice, writeResult, closeResult, readNumber, readBuffer, OpenLeaves, Leaves}
+use Rattle.model.specs.Answers.{formatNumber, formatDevice, formatPosition, FormatLeaves}
 
 -- ---- where things stand (document 01, "Geometry of a stick")
 
@@ -117,6 +120,14 @@ pub record AnswerLaws : Type 0 where
   pub close-served : closeResult answer.Served ≡ CloseResult.Closed
   pub close-refused : (r : Refusal) → closeResult (answer.Refused r) ≡ CloseResult.Refused (refusalNumber r)
   pub close-leaves : LeavesAll CloseResult
+  pub format-served : (made old : List ℕ) (after position : ℕ)
+      → (formatNumber (Formatted made after) ≡ 0) × (formatDevice (Formatted made after) old ≡ made)
+      × (formatPosition (Formatted made after) position ≡ after)
+  pub format-refused : (n : ℕ) (old : List ℕ) (position : ℕ)
+      → (formatNumber (FormatResult.Refused n) ≡ n) × (formatDevice (FormatResult.Refused n) old ≡ old)
+      × (formatPosition (FormatResult.Refused n) position ≡ position)
+  pub format-leaves : (r : FormatResult) (old : List ℕ) (position n : ℕ) (device : List ℕ) (after : ℕ) → FormatLeaves r old position n device after
+      → (n ≡ formatNumber r) × (device ≡ formatDevice r old) × (after ≡ formatPosition r position)
 
 -- ---- what calls find, write and leave
 
@@ -124,6 +135,11 @@ pub record ModelLaws : Type 0 where
   -- The cell that an opening takes opens, and no lower one does.
   pub lowest : (key : List ℕ) (cell : ℕ → List ℕ) (k : ℕ) (vmk : List ℕ) → firstCell key cell 15 0 ≡ At k vmk
       → (openCell key k (cell k) ≡ Text vmk) × ((i : ℕ) → i < k → openCell key i (cell i) ≡ WrongTag)
+  -- Whether a key opens a cell below its own: one that does, or every key is shut out of every lower cell.
+  pub lower-opens : (keys : List ℕ) (cell : ℕ → List ℕ) (n : ℕ) → lowerOpens keys cell n ≡ true
+      → (i : ℕ) × (j : ℕ) × (vmk : List ℕ) × (j < i) × (i < n) × (openCell (keyIn keys i) j (cell j) ≡ Text vmk)
+  pub lower-shut : (keys : List ℕ) (cell : ℕ → List ℕ) (n : ℕ) → lowerOpens keys cell n ≡ false
+      → (i j : ℕ) → j < i → i < n → openCell (keyIn keys i) j (cell j) ≡ WrongTag
   -- The data keys of an opening to volume k are 15 times 32 bytes, those above k zeros; no key at all is 480 zeros.
   pub keys-above : (keys : List ℕ) (k : ℕ) → length keys ≡ 32 * (k + 1) → k < 15
       → (length (allKeys keys k) ≡ 480) × ((i : ℕ) → k < i → i < 15 → keyIn (allKeys keys k) i ≡ replicate 32 0)

@@ -1,5 +1,5 @@
 // The types that the engine's calls speak of. What each call answers and leaves stands in specs/, in the order of
-// document 01; nothing here runs.
+// documents 01 and 02; nothing here runs.
 ghost use Rattle.model.specs.Theorems.{LayoutLaws, SealingLaws, AnswerLaws, ModelLaws};
 ghost use Rattle.model.specs.Bench.{cases, AllHold};
 use refusals::Answer;
@@ -88,7 +88,7 @@ pub fn model_laws()
     ensures { λ r. ⌜ ModelLaws ⌝ }
 {}
 
-// The bench cases of document 01, the starred ones and two more.
+// The bench cases of document 01, the starred ones and more, and the limits of a formatting.
 pub fn bench_cases()
     ensures { λ r. ⌜ AllHold cases ⌝ }
 {}

@@ -1,5 +1,6 @@
 -- Point 1 holds. Assumes nothing.
 use Rattle.guarantees.proofs.Answered.{open-answered, read-answered, find-answered, write-answered, close-answered}
+use Rattle.guarantees.proofs.Making.{format-answered}
 use Rattle.guarantees.proofs.Stored.{step}
 use Rattle.guarantees.proofs.point_one.Statement.{statement}
 use Rattle.guarantees.proofs.point_one.Tie as tie
@@ -12,6 +13,7 @@ returns c =
       finds = find-answered;
       writes = write-answered;
       closes = close-answered;
+      formats = format-answered;
       follows = λ st c. step st c .follows;
     }
 

@@ -9,13 +9,14 @@ use Rattle.model.specs.Geometry.{badGeometry, mapBlocks, headerBlocks, d
 use Rattle.model.specs.Session.{standing, asked, short}
 use Rattle.model.specs.Write.{search, firstFree}
 use Rattle.model.specs.Close.{anyBad, closeRefusal}
+use Rattle.model.specs.Format.{formatNeed, formatRefusal}
 use Rattle.model.specs.Bench.{cases}
 use Rattle.model.proofs.bench_cases.Statement.{statement}
 use Rattle.model.proofs.bench_cases.Tie as tie
 
 returns : tie.Need-returns
 unfolding cases refuse badGeometry mapBlocks headerBlocks deviceLength mapStart sliceStart ivStart blockStart standing asked short
-    search firstFree anyBad closeRefusal xtimes timesBits times squared squares inverse bit affineBit affine sbox
+    search firstFree anyBad closeRefusal formatNeed formatRefusal xtimes timesBits times squared squares inverse bit affineBit affine sbox
     numberAfter bigEndian increment
 returns c = (
   refl,
@@ -53,7 +54,7 @@ returns c = (
                                   refl,
                                   (
                                     refl,
-                                    (refl, (refl, (refl, (refl, tt)))),
+                                    (refl, (refl, (refl, (refl, (refl, (refl, (refl, tt))))))),
                                   ),
                                 ),
                               ),

@@ -3,7 +3,7 @@ use mathlib.Core.Path.{refl}
 use lib.Seq.{getD-set-same}
 use Rattle.model.specs.Session.{noKeys}
 use Rattle.model.proofs.Blocks.{claimed-ivs, claimed-block}
-use Rattle.model.proofs.Cells.{firstCell-lowest}
+use Rattle.model.proofs.Cells.{firstCell-lowest, lowerOpens-ends, lowerOpens-true, lowerOpens-false}
 use Rattle.model.proofs.Keys.{allKeys-length, allKeys-above}
 use Rattle.model.proofs.MapBlocks.{mapBlock-row}
 use Rattle.model.proofs.Seals.{block-iv, block-entry}
@@ -13,7 +13,9 @@ use Rattle.model.proofs.model_laws.Tie as tie
 returns : tie.Need-returns
 returns c =
     record {
-      lowest = λ key cell k vmk e. let l = firstCell-lowest key cell k vmk e in (l .1, l .2);
+      lowest = λ key cell k vmk e. let l = firstCell-lowest key cell 15 k vmk e in (l .1, l .2);
+      lower-opens = λ keys cell n e. lowerOpens-true keys cell (lowerOpens-ends keys cell n) e;
+      lower-shut = λ keys cell n e. lowerOpens-false keys cell (lowerOpens-ends keys cell n) e;
       keys-above = λ keys k e l. (allKeys-length keys k e l, allKeys-above keys k e l);
       no-keys = unfold noKeys in refl;
       claimed-ivs = claimed-ivs;

@@ -1,0 +1,266 @@
+-- A formatted stick opens with each of its keys to volumes of zeros, and points 2 and 3 hold from there on. Assumes nothing.
+use Prim.Native.Nat.{ℕ, zero, suc, _+_, _-_, _*_, _/_, _%_, _≤_, _<_}
+use mathlib.Core.Path.{_≡_, refl, sym, ap, ap₂, _∙_}
+use mathlib.Core.List.{List, [], _++_, append-nil, append-assoc}
+use mathlib.Core.Logic.{inr, ⊎-elim}
+use native.Mathlib.Omega.{arith}
+use native.Mathlib.Nat.{mul-comm, mod-lt, div-add-mod', div-lt-iff-lt-mul}
+use lib.ListN.{length, replicate, length-replicate}
+use lib.Seq.{take-all}
+use borrow.Author.Tests.{eq-eqb}
+use Rattle.ctr.specs.CounterMode.{ctr}
+use Rattle.gcm.specs.Gcm.{Opened, WrongTag}
+use Rattle.model.specs.declared.Geometry.{Geometry}
+use Rattle.model.specs.Parts.{part, joined}
+use Rattle.model.specs.Geometry.{Allowed, deviceLength, perBlock, fourBytes, cellStart, cellOf, headerOf}
+use Rattle.model.specs.Session.{keyIn, keyOf, sliceOf, offsetOf, unmapped}
+use Rattle.model.specs.Conditions.{TablesFit, Enough, Names}
+use Rattle.model.specs.Opening.{At, openCell, firstCell, openHeader, Chain, Keys, link, chain, storedEntry, Tables, loadMaps, noMaps, noOwners}
+use Rattle.model.specs.Opening.{allKeys, OpenOutcome}
+use Rattle.model.specs.Format.{FormatResult, Formatted}
+use Rattle.model.specs.Theorems.{HeaderText}
+use Rattle.model.proofs.Parts.{part-length, part-left, part-split, joined-length, joined-part}
+use Rattle.model.proofs.Bounds.{s-small, perBlock-least, mapBlock-of, sliceOf-lt}
+use Rattle.model.proofs.Tests.{below}
+use Rattle.model.proofs.Blocks.{deciphered-unmapped}
+use Rattle.model.proofs.Cells.{firstCell-at}
+use Rattle.model.proofs.MapBlocks.{marks-joined}
+use Rattle.model.proofs.Seals.{cell-opens, header-opens, header-text, map-entry}
+use Rattle.guarantees.specs.Rules.{First, formatRules, formatTape}
+use Rattle.guarantees.specs.Making.{Draws, belowOf, Made, cellMade, FormatAnswered, handed-wrong, lower-cell}
+use Rattle.guarantees.specs.Points.{Handed, Lent, opens, mapEntry, Blank, FormattedFor, FormattedOpens, FromMaking, FormatPoints}
+use Rattle.guarantees.proofs.Reflects.{eqb-reflects, reflects-stable, refutes-stable}
+use Rattle.guarantees.proofs.Chains.{first-leads, leads-passed, leads-zero}
+use Rattle.guarantees.proofs.Orders.{badGeometry-guards}
+use Rattle.guarantees.proofs.Tables.{load-marks}
+use Rattle.guarantees.proofs.Opened.{openRefusal-taken, Served, openedBy, served-is}
+use Rattle.guarantees.proofs.Points.{begins-due, points23}
+use Rattle.guarantees.proofs.Making.{format-answered}
+
+-- ---- a served formatting, taken apart
+
+-- A device made with n keys, none of which opens a cell below its own.
+record Stick (g : Geometry) (n : ℕ) (keys made : List ℕ) : Type 0 where
+  good : Allowed g
+  few : n ≤ 15
+  keyed : length keys ≡ 32 * n
+  drawn : List ℕ
+  draws : Draws g n drawn
+  lower : (i j : ℕ) → j < i → i < n → openCell (keyIn keys i) j (cellMade keys draws j) ≡ WrongTag
+  stands : Made g n keys drawn draws made
+
+-- Where no rule refuses, the geometry is allowed, and the keys are at most 15 of 32 bytes.
+formatRules-none : (device : ℕ) (g : Geometry) (n keys tape position : ℕ) → First (formatRules device g n keys tape position) 0 0
+    → Allowed g × (n ≤ 15) × (keys ≡ 32 * n)
+formatRules-none device g n keys tape position f =
+    let p1 = leads-passed (λ e. omega (arith, e)) (first-leads (formatRules device g n keys tape position) f) in
+    let p2 = leads-passed (λ e. omega (arith, e)) (p1 .1) in
+    let p3 = leads-passed (λ e. omega (arith, e)) (p2 .1) in
+    let p4 = leads-passed (λ e. omega (arith, e)) (p3 .1) in (
+      refutes-stable (badGeometry-guards 1 g .decides) (p1 .0),
+      ⊎-elim (λ l. absurd (p3 .0 (inr l))) (λ l. l) (below 15 n),
+      reflects-stable (eqb-reflects keys (32 * n)) (p4 .0),
+    )
+
+-- A served formatting has made a stick.
+answered-made : {device : ℕ} {g : Geometry} {n : ℕ} {keys tape : List ℕ} {position : ℕ} {r : FormatResult}
+    → FormatAnswered device g n keys tape position r → (made : List ℕ) (after : ℕ) → r ≡ Formatted made after → Stick g n keys made
+answered-made (handed-wrong r ne f) made after e = let z : _≡_ {A = ℕ} 0 1 = cc in absurd (omega arith)
+answered-made (lower-cell f d i j vmk j<i i<n o) made after e = let z : _≡_ {A = ℕ} 0 1 = cc in absurd (omega arith)
+answered-made {device} {g} {n} {keys} {tape} {position} (FormatAnswered.served f d lower device′ m) made after e =
+    let q : device′ ≡ made = cc in
+    let w = formatRules-none device g n (length keys) (length tape) position f in
+    record { good = w .0; few = w .1; keyed = w .2; drawn = _; draws = d; lower = lower; stands = rw q at m }
+
+-- ---- what stands on the device opens
+
+module _ (g : Geometry) (n : ℕ) (keys made : List ℕ) (mk : Stick g n keys made) where
+  abbrev d : Draws g n (mk .drawn)
+  d = mk .draws
+
+  abbrev header : ℕ → List ℕ
+  header = headerOf g made
+
+  -- A cell is its IV, ciphertext and tag.
+  cell-is : (j : ℕ) → j < n → cellOf made j ≡ cellMade keys d j
+  cell-is j l =
+      let q = mk .stands .cell j l in
+      part-split made (cellStart j) 12 48 (cellStart j + 12) refl
+      ∙ ap (λ (y : List ℕ). part (cellStart j) 12 made ++ y) (part-split made (cellStart j + 12) 32 16 (cellStart j + 12 + 32) refl)
+      ∙ rw (q .tag, q .cipher, mk .stands .cell-iv j l) refl
+
+  -- Key i opens cell i, and no lower one.
+  lowest-is : (i : ℕ) → i < n → firstCell (keyIn keys i) (cellOf made) 15 0 ≡ At i (d .vmk i)
+  lowest-is i l =
+      firstCell-at (keyIn keys i) (cellOf made) i (d .vmk i) (cell-opens made (keyIn keys i) (d .vmk i) i (mk .stands .cell i l))
+      (λ j h. ap (openCell (keyIn keys i) j) (cell-is j (omega arith)) ∙ mk .lower i j h l) 15 0 (omega arith) (omega (arith, mk .few))
+
+  -- The text of header j, and its parts.
+  abbrev text : ℕ → List ℕ
+  text j = d .vek j ++ (belowOf (d .vmk) j ++ (fourBytes (g .p) ++ fourBytes (g .s)))
+
+  belowOf-length : (j : ℕ) → j < n → length (belowOf (d .vmk) j) ≡ 32
+  belowOf-length zero l = refl
+  belowOf-length (suc j) l = d .vmk-long j (omega arith)
+
+  text-parts : (j : ℕ) → j < n → HeaderText (text j) (d .vek j) (belowOf (d .vmk) j) (g .p) (g .s)
+  text-parts j l =
+      header-text (d .vek j) (belowOf (d .vmk) j) (g .p) (g .s) (d .vek-long j l) (belowOf-length j l)
+      (omega (arith, mk .good .slices-most)) (omega (arith, s-small g (mk .good)))
+
+  -- Header j opens and fits.
+  link-is : (j : ℕ) → j < n → (next : List ℕ → Chain) → link g (openHeader (d .vmk j) j (header j)) next ≡ next (text j)
+  link-is j l next =
+      ap (λ (o : Opened). link g o next) (header-opens g (mk .good) made (d .vmk j) (text j) j (mk .stands .header j l))
+      ∙ rw (text-parts j l .third, text-parts j l .fourth, eq-eqb (g .p) (g .p) refl, eq-eqb (g .s) (g .s) refl) refl
+
+  -- The chain from header j down gives the VEKs of volumes 0 to j.
+  chain-is : (j : ℕ) → j < n → (above : List ℕ) → chain g header j (d .vmk j) above ≡ Keys (joined (suc j) (d .vek) ++ above)
+  unfolding chain joined
+  chain-is zero l above = link-is zero l _ ∙ ap (λ (v : List ℕ). Keys (v ++ above)) (text-parts zero l .first)
+  chain-is (suc j) l above =
+      link-is (suc j) l _
+      ∙ ap₂ (λ (v w : List ℕ). chain g header j w (v ++ above)) (text-parts (suc j) l .first) (text-parts (suc j) l .second)
+      ∙ chain-is j (omega arith) (d .vek (suc j) ++ above)
+      ∙ ap Keys (sym (append-assoc (joined (suc j) (d .vek)) (d .vek (suc j)) above))
+
+  -- The data keys of an opening to volume i.
+  abbrev dataKeys : ℕ → List ℕ
+  dataKeys i = allKeys (joined (suc i) (d .vek)) i
+
+  key-is : (i j : ℕ) → i < n → j ≤ i → keyIn (dataKeys i) j ≡ d .vek j
+  key-is i j l h =
+      part-left (joined (suc i) (d .vek)) (replicate (32 * (14 - i)) 0) (32 * j) 32 (omega (arith, joined-length 32 (suc i) (d .vek) each))
+      ∙ ap (λ (y : ℕ). part y 32 (joined (suc i) (d .vek))) (mul-comm 32 j)
+      ∙ joined-part 32 (suc i) (d .vek) each j (omega arith)
+    where
+      each : (v : ℕ) → v < suc i → length (d .vek v) ≡ 32
+      each v q = d .vek-long v (omega arith)
+
+  -- Every stored entry is the mark.
+  stored-is : (j σ : ℕ) → j < n → σ < g .p → storedEntry g (d .vek j) (header j) σ ≡ unmapped
+  stored-is j σ l h =
+      let t = σ / perBlock g in
+      let iv = d .mapIv j t in
+      let lt = mapBlock-of g (mk .good) σ h in
+      ap (storedEntry g (d .vek j) (header j)) (sym (div-add-mod' σ (perBlock g)))
+      ∙ map-entry g (mk .good) made (d .vek j) iv (λ e. unmapped) j t (σ % perBlock g) lt (mod-lt σ (perBlock-least g (mk .good)))
+      (d .mapIv-long j t l lt) (omega arith)
+      (mk .stands .map j t l lt ∙ ap (λ (y : List ℕ). iv ++ ctr (d .vek j) iv y) (sym (marks-joined g (mk .good))))
+
+  -- An opening to volume i reads marks alone.
+  entry-is : (i j σ : ℕ) → i < n → j ≤ i → σ < g .p → storedEntry g (keyIn (dataKeys i) j) (header j) σ ≡ unmapped
+  entry-is i j σ l h hσ =
+      ap (λ (key : List ℕ). storedEntry g key (header j) σ) (key-is i j l h) ∙ stored-is j σ (omega arith) hσ
+
+  -- Its tables hold nothing.
+  maps-are : (i : ℕ) → i < n → loadMaps g header (dataKeys i) i ≡ Tables (noMaps g) (noOwners g)
+  maps-are i l =
+      load-marks (g .p) _ ((i + 1) * g .p) 0 (noMaps g) (noOwners g)
+      (λ m lo hi. let r : m / g .p < i + 1 = div-lt-iff-lt-mul (mk .good .slices-least) .1 (omega arith) in
+      entry-is i (m / g .p) (m % g .p) l (omega arith) (mod-lt m (mk .good .slices-least)))
+
+-- ---- the opening
+
+module _ (made : List ℕ) (x : Handed) (l : Lent) (i : ℕ) (n : ℕ) (keys : List ℕ) (mk : Stick (x .geometry) n keys made)
+    (hi : i < n) (key : x .key ≡ keyIn keys i) (names : Names (x .geometry .p) (x .perm))
+    (tables : TablesFit (x .geometry) (length (l .maps)) (length (l .owners))) where
+  abbrev g₀ : Geometry
+  g₀ = x .geometry
+
+  -- The opening with key i, step by step.
+  abbrev made-served : Served made x l i
+  made-served =
+      record {
+        vmk = mk .draws .vmk i;
+        keys = joined (suc i) (mk .draws .vek);
+        maps = noMaps g₀;
+        owners = noOwners g₀;
+        accepted =
+            openRefusal-taken made x l (record {
+              good = mk .good;
+              long = mk .stands .long;
+              keyed = ap length key ∙ part-length keys (32 * i) 32 (omega (arith, mk .keyed));
+              tables = tables;
+              names = names;
+            });
+        lowest = ap (λ (k : List ℕ). firstCell k (cellOf made) 15 0) key ∙ lowest-is g₀ n keys made mk i hi;
+        headers = chain-is g₀ n keys made mk i hi [] ∙ ap Keys (append-nil (joined (suc i) (mk .draws .vek)));
+        tables = maps-are g₀ n keys made mk i hi;
+      }
+
+  made-blank : Blank made x l i
+  made-blank =
+      record {
+        served = ap (λ (o : OpenOutcome). o .answer) is;
+        maps = ap (λ (o : OpenOutcome). o .maps) is;
+        owners = ap (λ (o : OpenOutcome). o .owners) is;
+        zeros = λ j a hj ha.
+            deciphered-unmapped g₀ (keyOf (opens made x l .session) j) (mapEntry made x l j (sliceOf g₀ a)) (offsetOf g₀ a) made
+            (omega (arith, mk .good .slices-most, entry j (sliceOf g₀ a) hj (sliceOf-lt g₀ (mk .good) a ha)));
+      }
+    where
+      is : opens made x l ≡ openedBy made x l i made-served
+      is = served-is made x l i made-served
+
+      entry : (j σ : ℕ) → j ≤ i → σ < g₀ .p → mapEntry made x l j σ ≡ unmapped
+      entry j σ hj hσ =
+          ap (λ (o : OpenOutcome). storedEntry g₀ (keyOf (o .session) j) (headerOf g₀ made j) σ) is
+          ∙ entry-is g₀ n keys made mk i j σ hi hj hσ
+
+  made-runs : FromMaking made x l i
+  made-runs =
+      record {
+        due = λ cs.
+            begins-due made x l i made-served (λ j a. replicate (g₀ .b) 0) (λ j a hj ha. sym (made-blank .zeros j a hj ha)) cs .0;
+        guarantee = points23 made x l i (made-blank .served);
+      }
+
+-- ---- formatting
+
+-- With one key no rule applies, and no cell is below the first.
+answered-served : {g : Geometry} {key tape : List ℕ} {position : ℕ} → Allowed g → length key ≡ 32
+    → Enough (length tape) position (formatTape g 1) → {r : FormatResult} → FormatAnswered (deviceLength g) g 1 key tape position r
+    → (made : List ℕ) × (r ≡ Formatted made (position + formatTape g 1))
+answered-served {g} {key} {tape} {position} ok long enough (handed-wrong r ne f) =
+    absurd (ne (leads-zero (first-leads (formatRules (deviceLength g) g 1 (length key) (length tape) position) f)
+    (λ k. k ok, (λ k. k refl, (⊎-elim (λ e. omega (arith, e)) (λ l. omega (arith, l)), (λ k. k long, (λ k. k enough, tt)))))))
+answered-served ok long enough (lower-cell f d i j vmk j<i i<1 o) = absurd (omega arith)
+answered-served ok long enough (FormatAnswered.served f d lower made m) = (made, refl)
+
+-- Formatted is made.
+stick : {made : List ℕ} {x : Handed} {l : Lent} {i : ℕ} (f : FormattedFor made x l i) → Stick (x .geometry) (f .n) (f .keys) made
+stick {made} {x} f =
+    answered-made (format-answered (f .device) (x .geometry) (f .n) (f .keys) (f .tape) (f .position)) made (f .after) (f .formatted)
+
+blank : FormattedOpens
+blank made x l i f = made-blank made x l i (f .n) (f .keys) (stick f) (f .below) (f .key) (f .names) (f .tables)
+
+pub format-points : FormatPoints
+format-points =
+    record {
+      blank = blank;
+      runs = λ made x l i f. made-runs made x l i (f .n) (f .keys) (stick f) (f .below) (f .key) (f .names) (f .tables);
+      one-key = λ g ok key tape position long enough. answered-served ok long enough (format-answered (deviceLength g) g 1 key tape position);
+      some-opens = λ x l ok long names tables.
+          let g = x .geometry in
+          let need = formatTape g 1 in
+          let zeros : List ℕ = replicate need 0 in
+          let enough : Enough (length zeros) 0 need = omega (arith, length-replicate {A = ℕ} need 0) in
+          let m = answered-served ok long enough (format-answered (deviceLength g) g 1 (x .key) zeros 0) in
+          let f : FormattedFor (m .0) x l 0 =
+          record {
+            device = deviceLength g;
+            n = 1;
+            keys = x .key;
+            tape = zeros;
+            position = 0;
+            after = 0 + need;
+            formatted = m .1;
+            below = omega arith;
+            key = sym (take-all 32 (x .key) (omega arith));
+            names = names;
+            tables = tables;
+          } in
+          (m .0, blank (m .0) x l 0 f .served);
+    }
