@@ -3,7 +3,6 @@
 // Arguments pass as in `c_ciphers`. The structs of the header are lent as their bytes, which crate `records` reads and writes.
 // A struct of another size than the header's is 13 before everything else, and then all that was lent stays; but the answer of a
 // write is told where its own struct has its size.
-ghost use mathlib.Core.Path.{_≡_};
 ghost use lib.ListN.{length};
 ghost use Rattle.model.specs.Session.{held};
 ghost use Rattle.model.specs.Opening.{openModel};

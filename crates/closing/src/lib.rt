@@ -5,12 +5,11 @@
 ghost use mathlib.Core.Path.{_≡_};
 ghost use Prim.Native.Nat.{_+_, _-_, _*_, _≤_, _<_};
 ghost use lib.ListN.{length};
-ghost use lib.Dec.{ltb};
 ghost use Rattle.refusals.specs.Numbers.{answerNumber};
-ghost use Rattle.model.specs.Parts.{overlay, choose};
+ghost use Rattle.model.specs.Parts.{overlay};
 ghost use Rattle.model.specs.Geometry.{Allowed, mapBlocks, deviceLength, mapStart};
-ghost use Rattle.model.specs.Session.{held, entry, unmapped};
-ghost use Rattle.model.specs.Close.{CloseResult, mapText, mapBlock, mapBytes, closeNeed, closeRefusal, closedSession, closeModel};
+ghost use Rattle.model.specs.Session.{held};
+ghost use Rattle.model.specs.Close.{CloseResult, mapBytes, closeNeed, closeRefusal, closedSession, closeModel};
 ghost use Rattle.model.specs.Answers.{closeResult, Leaves};
 ghost use Rattle.model.specs.Conditions.{Usable};
 ghost use Rattle.closing.specs.Carried.{needed, carried};
@@ -20,78 +19,6 @@ use model::Session;
 use model::TapePosition;
 use refusals::Answer;
 use refusals::Refusal;
-
-// ---- map blocks
-
-// What a map block says of a logical slice: the mark past the last.
-fn map_entry(maps: &[u32], g: Geometry, volume: usize, slice: usize) -> usize
-    requires { ⌜ Allowed g × (length (now maps) ≡ 15 * g .p) × (volume ≤ 14) ⌝ }
-    ensures { λ r. ⌜ r ≡ choose (ltb slice (g .p)) (entry (now (maps .entry)) g volume slice) unmapped ⌝ }
-{
-    if slice < g.p {
-        return tables::entry_at(maps, g, volume, slice);
-    }
-    tables::UNMAPPED
-}
-
-// The entries of map block t of a volume as bytes.
-fn map_text(maps: &[u32], g: Geometry, volume: usize, t: usize, buf: &mut [u8])
-    requires { ⌜ Allowed g × (length (now maps) ≡ 15 * g .p) × (volume ≤ 14) × (t < mapBlocks g) × (length (now buf) ≡ g .b - 16) ⌝ }
-    ensures { λ r. ⌜ now (buf .exit) ≡ mapText (now (maps .entry)) g volume t ⌝ }
-{
-    let n = places::entries_per_block(g);
-    let mut e = 0;
-    while e < n {
-        let entry = map_entry(maps, g, volume, t * n + e);
-        places::put_number(buf, e * 4, entry);
-        e += 1;
-    }
-}
-
-// Map block t of a volume over what stood from a place on: its IV, then its entries in counter mode. Its entries are made
-// in `text`, memory as long as they are.
-fn store_map_in(
-    device: &mut [u8],
-    at: usize,
-    maps: &[u32],
-    g: Geometry,
-    key: &[u8],
-    iv: &[u8],
-    volume: usize,
-    t: usize,
-    text: &mut [u8],
-)
-    requires { ⌜ Allowed g × (length (now maps) ≡ 15 * g .p) × (length (now key) ≡ 32) × (volume ≤ 14) × (t < mapBlocks g) × (length (now iv) ≡ 16) ×
-        (at + g .b ≤ length (now device)) × (length (now text) ≡ g .b - 16) ⌝ }
-    ensures { λ r. ⌜ now (device .exit) ≡ overlay (now (device .entry)) at
-        (mapBlock (now (maps .entry)) g (now (key .entry)) volume t (now (iv .entry))) ⌝ }
-{
-    map_text(maps, g, volume, t, text);
-    places::store(device, at, iv);
-    let from = at + 16;
-    places::store_ctr(device, from, key, iv, text);
-}
-
-// The same with memory of its own for the entries.
-fn store_map(
-    device: &mut [u8],
-    at: usize,
-    maps: &[u32],
-    g: Geometry,
-    key: &[u8],
-    iv: &[u8],
-    volume: usize,
-    t: usize,
-)
-    requires { ⌜ Allowed g × (length (now maps) ≡ 15 * g .p) × (length (now key) ≡ 32) × (volume ≤ 14) × (t < mapBlocks g) × (length (now iv) ≡ 16) ×
-        (at + g .b ≤ length (now device)) ⌝ }
-    ensures { λ r. ⌜ now (device .exit) ≡ overlay (now (device .entry)) at
-        (mapBlock (now (maps .entry)) g (now (key .entry)) volume t (now (iv .entry))) ⌝ }
-{
-    let mut text = [0u8; 4096];
-    let n = g.b - 16;
-    store_map_in(device, at, maps, g, key, iv, volume, t, &mut text[..n]);
-}
 
 // All map blocks of a volume, each with a fresh IV, from a place of the tape on.
 fn store_maps(
@@ -108,25 +35,9 @@ fn store_maps(
     ensures { λ r. ⌜ now (device .exit) ≡ overlay (now (device .entry)) (mapStart g volume)
         (mapBytes (now (maps .entry)) g (now (key .entry)) (now (tape .entry)) position volume) ⌝ }
 {
-    let m = places::map_blocks(g);
-    let b = g.b;
-    let start = places::map_start(g, volume);
-    let mut t = 0;
-    while t < m {
-        let from = position + 16 * t;
-        let to = from + 16;
-        store_map(
-            device,
-            start + t * b,
-            maps,
-            g,
-            key,
-            &tape[from..to],
-            volume,
-            t,
-        );
-        t += 1;
-    }
+    let from = volume * g.p;
+    let to = from + g.p;
+    mapping::store_maps(device, &maps[from..to], g, key, tape, position, volume);
 }
 
 // ---- the call

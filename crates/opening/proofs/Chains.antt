@@ -10,7 +10,7 @@ use Rattle.model.specs.declared.Geometry.{Geometry}
 use Rattle.model.specs.Parts.{part, overlay}
 use Rattle.model.specs.Session.{noKeys}
 use Rattle.model.specs.Opening.{Chain, Keys, Broken, openHeader, vekOf, vmkBelow, link, chain, allKeys}
-use Rattle.model.proofs.Parts.{overlay-whole, overlay-after}
+use Rattle.model.proofs.Parts.{part-replicate, overlay-whole, overlay-after}
 use Rattle.opening.specs.Steps.{HeaderOpened, ChainOpened}
 use Rattle.opening.proofs.Headers.{link-broken, link-goes-on}
 
@@ -78,20 +78,13 @@ pub keys-above : (keys vek : List ℕ) (k n : ℕ) → length vek ≡ 32 → 0 <
     → part (32 * (k + 1)) (32 * (14 - k)) (overlay keys (32 * (n - 1)) vek) ≡ replicate (32 * (14 - k)) 0
 keys-above keys vek k n ev ln l e = overlay-after keys (32 * (n - 1)) vek (32 * (k + 1)) (32 * (14 - k)) (omega arith) ∙ e
 
-part-replicate : (z a n m : ℕ) → a + n ≡ m → part a n (replicate m z) ≡ replicate n z
-part-replicate z zero n m e =
-    let q : m ≡ n = omega arith in
-    ap (λ (l : ℕ). take n (replicate l z)) q ∙ take-all n (replicate n z) (rw length-replicate (omega arith))
-part-replicate z (suc a) n zero e = absurd (omega arith)
-part-replicate z (suc a) n (suc m) e = part-replicate z a n m (omega arith)
-
 pub noKeys-length : length noKeys ≡ 480
 unfolding noKeys
 noKeys-length = length-replicate {A = ℕ} 480 0
 
 pub noKeys-above : (k : ℕ) → k ≤ 14 → part (32 * (k + 1)) (32 * (14 - k)) noKeys ≡ replicate (32 * (14 - k)) 0
 unfolding noKeys
-noKeys-above k l = part-replicate 0 (32 * (k + 1)) (32 * (14 - k)) 480 (omega arith)
+noKeys-above k l = part-replicate (32 * (k + 1)) (32 * (14 - k)) 480 0 (omega arith)
 
 -- All of them, where none is left to do.
 pub keys-whole : (keys : List ℕ) (k : ℕ) {n : ℕ} → length keys ≡ 480 → k ≤ 14 → n ≡ 0

@@ -1,31 +1,25 @@
 -- Laws of opening key cells and headers. Assumes nothing.
-use Prim.Native.Nat.{ℕ, suc, _+_, _-_, _*_, _≤_, _<_}
-use mathlib.Core.Path.{_≡_, refl, sym, ap, ap₂, _∙_}
+use Prim.Native.Nat.{ℕ, _+_, _-_, _*_, _≤_}
+use mathlib.Core.Path.{_≡_, refl, sym, ap, _∙_}
 use mathlib.Core.List.{List, [], _∷_}
-use mathlib.Core.Bool.{Bool, true, false, not, _||_, false≢true}
+use mathlib.Core.Bool.{Bool, true, false, not, _||_}
 use native.Mathlib.Nat.{mul-le-mul-left}
-use native.Mathlib.Numerals.{add-one}
 use native.Mathlib.Omega.{arith}
 use borrow.Author.Tests.{eq-eqb, ne-eqb}
 use lib.Dec.{eqb}
 use lib.ListN.{length, take, drop}
-use Rattle.gcm.specs.Gcm.{Opened, Text, WrongTag, gcmTag, gcmText, gcmOpen, same, textIf}
+use Rattle.gcm.specs.Gcm.{Opened, Text, WrongTag, gcmTag, gcmText, same, textIf}
 use Rattle.gcm.specs.Call.{openedOver}
 use Rattle.gcm.proofs.Same.{open-test}
 use Rattle.model.specs.declared.Geometry.{Geometry}
 use Rattle.model.specs.Parts.{choose, part}
 use Rattle.model.specs.Geometry.{Allowed, mapBlocks, deviceLength, numberAt, headerStart, headerOf}
-use Rattle.model.specs.Opening.{Cell, NoCell, openCell, openHeader, orNext, firstCell, Chain, Broken, link}
-use Rattle.model.proofs.Parts.{part-lent, part-part}
+use Rattle.model.specs.Opening.{openHeader, Chain, Broken, link}
+use Rattle.model.proofs.Parts.{part-part}
 use Rattle.model.proofs.Bounds.{b-bounds, header-fits}
-use Rattle.opening.specs.declared.Found.the-variants as found
-use Rattle.opening.specs.Steps.{isText, CellFound, HeaderOpened}
+use Rattle.opening.specs.Steps.{HeaderOpened}
 
 -- ---- parts
-
--- A part that is lent, within a longer part.
-pub part-inner : (s : List ℕ) (at w x n from : ℕ) → from ≡ at + x → x + n ≤ w → part from (from + n - from) s ≡ part x n (part at w s)
-part-inner s at w x n from e h = part-lent s from n e ∙ sym (part-part s at w x n h)
 
 -- A header is read alike where more of the device follows it.
 pub part-header : (g : Geometry) → Allowed g → (device : List ℕ) (i : ℕ) → i ≤ 14 → length device ≡ deviceLength g → {s : ℕ} → s ≡ headerStart g i
@@ -34,55 +28,6 @@ part-header g ok device i l e {s} q x n h =
     part-part device s (length device - s) x n (omega (arith, header-fits g ok i l))
     ∙ ap (λ (m : ℕ). part (m + x) n device) q
     ∙ sym (part-part device (headerStart g i) (g .b * (1 + mapBlocks g)) x n h)
-
--- ---- opening
-
-module _ (key aad : List ℕ) where
-  isText-if : (t : Bool) (text : List ℕ) → t ≡ isText (textIf t text)
-  isText-if true text = refl
-  isText-if false text = refl
-
-  -- What opening leaves, of equal parts.
-  pub open-parts : {iv iv′ c c′ tag tag′ out : List ℕ} {r : Bool} (old : List ℕ) → iv ≡ iv′ → c ≡ c′ → tag ≡ tag′
-      → r ≡ same (gcmTag key iv aad c) tag → out ≡ openedOver (gcmOpen key iv aad c tag) old
-      → (r ≡ isText (gcmOpen key iv′ aad c′ tag′)) × (out ≡ openedOver (gcmOpen key iv′ aad c′ tag′) old)
-  open-parts {iv} {iv′} {c} {c′} {tag} {tag′} {out} {r} old ei ec et er eo =
-      let e : gcmOpen key iv aad c tag ≡ gcmOpen key iv′ aad c′ tag′ =
-      ap₂ (λ (x y : List ℕ). gcmOpen key x aad y tag) ei ec ∙ ap (gcmOpen key iv′ aad c′) et in
-      let t : r ≡ isText (gcmOpen key iv aad c tag) = rw (open-test key iv aad c tag er refl) (isText-if r _) in
-      (t ∙ ap isText e, eo ∙ ap (λ (o : Opened). openedOver o old) e)
-
--- ---- cells
-
-orNext-opens : (o : Opened) (i : ℕ) (rest : Cell) (old vmk : List ℕ) → isText o ≡ true → vmk ≡ openedOver o old
-    → CellFound (orNext o i rest) (found.At i) vmk
-orNext-opens (Text text) i rest old vmk t e = (refl, e)
-orNext-opens WrongTag i rest old vmk t e = absurd (false≢true t)
-
-orNext-passed : (o : Opened) (i : ℕ) (rest : Cell) → isText o ≡ false → orNext o i rest ≡ rest
-orNext-passed (Text text) i rest t = absurd (false≢true (sym t))
-orNext-passed WrongTag i rest t = refl
-
-module _ (key : List ℕ) (cell : ℕ → List ℕ) where
-  firstCell-next : (n i : ℕ) → i < n
-      → firstCell key cell (n - i) i ≡ orNext (openCell key i (cell i)) i (firstCell key cell (n - (i + 1)) (i + 1))
-  unfolding firstCell
-  firstCell-next n i l =
-      let k : n - i ≡ suc (n - (i + 1)) = omega arith in
-      ap (λ (m : ℕ). firstCell key cell m i) k
-      ∙ ap (λ (j : ℕ). orNext (openCell key i (cell i)) i (firstCell key cell (n - (i + 1)) j)) (sym (add-one i))
-
-  pub firstCell-opens : (n i : ℕ) (old vmk : List ℕ) → i < n → isText (openCell key i (cell i)) ≡ true
-      → vmk ≡ openedOver (openCell key i (cell i)) old → CellFound (firstCell key cell (n - i) i) (found.At i) vmk
-  firstCell-opens n i old vmk l t e = rw (firstCell-next n i l) (orNext-opens (openCell key i (cell i)) i _ old vmk t e)
-
-  pub firstCell-passes : (n i : ℕ) → i < n → isText (openCell key i (cell i)) ≡ false
-      → firstCell key cell (n - i) i ≡ firstCell key cell (n - (i + 1)) (i + 1)
-  firstCell-passes n i l t = firstCell-next n i l ∙ orNext-passed (openCell key i (cell i)) i _ t
-
-  pub firstCell-done : (n i : ℕ) → n ≡ 0 → firstCell key cell n i ≡ NoCell
-  unfolding firstCell
-  firstCell-done n i e = rw e
 
 -- ---- headers
 

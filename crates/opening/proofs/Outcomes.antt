@@ -1,54 +1,18 @@
 -- Laws of what an opening leaves, by what its steps found. Assumes nothing.
-use Prim.Native.Nat.{ℕ, zero, suc, _+_, _≤_, _<_}
-use mathlib.Core.Path.{_≡_, refl, sym, ap, ap₂, subst}
+use Prim.Native.Nat.{ℕ, _<_}
+use mathlib.Core.Path.{_≡_, refl, sym, ap, subst}
 use mathlib.Core.List.{List, []}
 use mathlib.Core.Bool.{true}
-use native.Mathlib.Omega.{arith}
 use lib.ListN.{length}
-use Rattle.gcm.specs.Gcm.{Opened, Text, WrongTag}
 use Rattle.model.specs.declared.Geometry.{Geometry}
 use Rattle.model.specs.declared.Session.{Session}
 use Rattle.model.specs.Geometry.{cellOf, headerOf}
-use Rattle.model.specs.Opening.{Cell, At, NoCell, openCell, orNext, firstCell, Chain, Keys, Broken, chain}
+use Rattle.model.specs.Opening.{Cell, At, NoCell, firstCell, Chain, Keys, Broken, chain}
 use Rattle.model.specs.Opening.{Loaded, Tables, Spoilt, loadMaps, openRefusal}
 use Rattle.model.specs.Opening.{OpenResult, OpenTo, NotOpened, OpenOutcome, noSession, untouched, wiped, withTables, withKeys, withCell, openModel}
 use Rattle.model.specs.Answers.{OpenLeaves}
 use Rattle.model.proofs.Order.{unless-refused}
-use Rattle.opening.specs.declared.Found.{Found}
-use Rattle.opening.specs.declared.Found.the-variants as found
-use Rattle.opening.specs.Steps.{CellFound, ChainOpened}
-
--- ---- the cell
-
-cell-at : (o : Cell) (r : Found) (vmk : List ℕ) {k : ℕ} → CellFound o r vmk → r ≡ found.At k → o ≡ At k vmk
-cell-at (At j key) r vmk {k} (e, q) h = let same : j ≡ k = cc in ap₂ At same (sym q)
-cell-at NoCell r vmk e h = absurd (let z : _≡_ {A = ℕ} 0 1 = cc in omega arith)
-
-cell-none : (o : Cell) (r : Found) (vmk : List ℕ) → CellFound o r vmk → r ≡ found.Nothing → o ≡ NoCell
-cell-none (At j key) r vmk (e, q) h = absurd (let z : _≡_ {A = ℕ} 0 1 = cc in omega arith)
-cell-none NoCell r vmk e h = refl
-
-module _ (key : List ℕ) (cell : ℕ → List ℕ) where
-  firstCell-below : (left i k : ℕ) (vmk : List ℕ) → firstCell key cell left i ≡ At k vmk → k < i + left
-  unfolding firstCell
-  firstCell-below zero i k vmk e = absurd (let z : _≡_ {A = ℕ} 0 1 = cc in omega arith)
-  firstCell-below (suc left) i k vmk e = by-cell (openCell key i (cell i)) e (firstCell-below left (suc i) k vmk)
-    where
-      by-cell : (o : Opened) → orNext o i (firstCell key cell left (suc i)) ≡ At k vmk
-          → (firstCell key cell left (suc i) ≡ At k vmk → k < suc i + left)
-          → k < i + suc left
-      by-cell (Text v) q ih = let same : i ≡ k = cc in omega arith
-      by-cell WrongTag q ih = omega (arith, ih q)
-
-  module _ (r : Found) (vmk : List ℕ) (f : CellFound (firstCell key cell 15 0) r vmk) where
-    pub found-at : {k : ℕ} → r ≡ found.At k → firstCell key cell 15 0 ≡ At k vmk
-    found-at h = cell-at (firstCell key cell 15 0) r vmk f h
-
-    pub found-below : {k : ℕ} → r ≡ found.At k → k ≤ 14
-    found-below {k} h = omega (arith, firstCell-below 15 0 k vmk (found-at h))
-
-    pub found-none : r ≡ found.Nothing → firstCell key cell 15 0 ≡ NoCell
-    found-none h = cell-none (firstCell key cell 15 0) r vmk f h
+use Rattle.opening.specs.Steps.{ChainOpened}
 
 -- ---- the outcome
 

@@ -1,26 +1,14 @@
 -- What the steps of an opening leave, in the model's terms. Assumes nothing.
 use Prim.Native.Nat.{ℕ}
 use mathlib.Core.Path.{_≡_}
-use mathlib.Core.Bool.{Bool, true, false, not, _||_}
+use mathlib.Core.Bool.{not, _||_}
 use mathlib.Core.List.{List}
 use lib.Dec.{eqb}
 use Rattle.gcm.specs.Gcm.{Opened, Text, WrongTag}
 use Rattle.model.specs.declared.Geometry.{Geometry}
 use Rattle.model.specs.Parts.{choose}
 use Rattle.model.specs.Geometry.{numberAt}
-use Rattle.model.specs.Opening.{Cell, At, NoCell, Chain, Keys, Broken, allKeys}
-use Rattle.opening.specs.declared.Found.{Found}
-use Rattle.opening.specs.declared.Found.the-variants as found
-
--- Whether an opening gave a text.
-abbrev pub isText : Opened → Bool
-isText (Text text) = true
-isText WrongTag = false
-
--- The lowest cell that opens, with its VMK in a buffer.
-abbrev pub CellFound : Cell → Found → (vmk : List ℕ) → Type 0
-CellFound (At k key) r vmk = (r ≡ found.At k) × (vmk ≡ key)
-CellFound NoCell r vmk = r ≡ found.Nothing
+use Rattle.model.specs.Opening.{Chain, Keys, Broken, allKeys}
 
 -- A header opened: 7 where its tag is wrong; else its text, and 8 where P or S differs.
 abbrev pub HeaderOpened : Geometry → Opened → (number : ℕ) → (text : List ℕ) → Type 0

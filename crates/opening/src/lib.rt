@@ -7,15 +7,14 @@ ghost use Prim.Native.Nat.{_+_, _-_, _*_, _%_, _≤_, _<_};
 ghost use lib.ListN.{length};
 ghost use Rattle.refusals.specs.Numbers.{answerNumber};
 ghost use Rattle.ctr.specs.CounterMode.{ctr};
-ghost use Rattle.gcm.specs.Call.{openedOver};
 ghost use Rattle.model.specs.Parts.{part};
 ghost use Rattle.model.specs.Geometry.{Allowed, mapBlocks, deviceLength, perBlock, numberAt, cellOf, headerOf};
 ghost use Rattle.model.specs.Session.{noKeys};
-ghost use Rattle.model.specs.Opening.{openCell, firstCell, openHeader, chain, storedEntry, mapEntries, load, noMaps, noOwners};
+ghost use Rattle.model.specs.Opening.{firstCell, openHeader, chain, storedEntry, mapEntries, load, noMaps, noOwners};
 ghost use Rattle.model.specs.Opening.{openRefusal, noSession, loadMaps, withTables, withCell, openModel};
 ghost use Rattle.model.specs.Answers.{openResult, OpenLeaves};
 ghost use Rattle.tables.specs.Settled.{Settled};
-ghost use Rattle.opening.specs.Steps.{isText, CellFound, HeaderOpened, ChainOpened};
+ghost use Rattle.opening.specs.Steps.{HeaderOpened, ChainOpened};
 ghost use mathlib.Core.List.{[]};
 use model::Geometry;
 use model::OpenAnswer;
@@ -23,50 +22,7 @@ use model::Opening;
 use model::Session;
 use refusals::Answer;
 use refusals::Refusal;
-
-// The cell that opens.
-pub enum Found {
-    At(usize),
-    Nothing,
-}
-
-// ---- cells
-
-// Tries key cell i; its VMK goes into vmk where it opens.
-fn open_cell(device: &[u8], key: &[u8], i: usize, vmk: &mut [u8]) -> bool
-    requires { ⌜ (916 ≤ length (now device)) × (length (now key) ≡ 32) × (i < 15) × (length (now vmk) ≡ 32) ⌝ }
-    ensures opens { λ r. ⌜ r ≡ isText (openCell (now (key .entry)) i (cellOf (now (device .entry)) i)) ⌝ }
-    ensures vmk { λ r. ⌜ now (vmk .exit) ≡ openedOver (openCell (now (key .entry)) i (cellOf (now (device .entry)) i)) (now (vmk .entry)) ⌝ }
-{
-    let aad = [i as u8];
-    let iv = 16 + 60 * i;
-    let text = iv + 12;
-    let tag = text + 32;
-    let end = tag + 16;
-    gcm::open_into(
-        key,
-        &device[iv..text],
-        &aad,
-        &device[text..tag],
-        &device[tag..end],
-        vmk,
-    )
-}
-
-// The lowest cell that opens, with its VMK in vmk.
-fn first_cell(device: &[u8], key: &[u8], vmk: &mut [u8]) -> Found
-    requires { ⌜ (916 ≤ length (now device)) × (length (now key) ≡ 32) × (length (now vmk) ≡ 32) ⌝ }
-    ensures { λ r. ⌜ CellFound (firstCell (now (key .entry)) (cellOf (now (device .entry))) 15 0) r (now (vmk .exit)) ⌝ }
-{
-    let mut i = 0;
-    while i < 15 {
-        if open_cell(device, key, i, vmk) {
-            return Found::At(i);
-        }
-        i += 1;
-    }
-    Found::Nothing
-}
+use sealing::Found;
 
 // ---- headers
 
@@ -341,7 +297,7 @@ fn open_volumes(
         (openResult (r .answer)) (now (maps .exit)) (now (owners .exit)) (r .session) ⌝ }
 {
     let mut vmk = [0u8; 32];
-    let found = first_cell(device, key, &mut vmk);
+    let found = sealing::first_cell(device, key, 15, &mut vmk);
     match found {
         Found::Nothing => refused(Refusal::NoCell),
         Found::At(k) => {

@@ -74,9 +74,9 @@ pub fn device_length(g: Geometry) -> usize
     g.b * (header_blocks(g) + g.p * (g.s + 1))
 }
 
-// The data key of a volume, among keys that stand end to end.
+// The key of a volume, among keys that stand end to end.
 pub fn key_in<'a>(keys: &'a [u8], volume: usize) -> &'a [u8]
-    requires { ⌜ (volume ≤ 14) × (length (now keys) ≡ 480) ⌝ }
+    requires { ⌜ 32 * volume + 32 ≤ length (now keys) ⌝ }
     ensures { λ r. ⌜ (now r ≡ keyIn (now (keys .entry)) volume) × (length (now r) ≡ 32) ⌝ }
 {
     let from = 32 * volume;

@@ -2,7 +2,7 @@
 //
 // `read` and `find` are public calls: any arguments. Neither draws from the tape, and neither changes device or tables.
 ghost use mathlib.Core.Path.{_≡_};
-ghost use Prim.Native.Nat.{_+_, _*_, _≤_, _<_};
+ghost use Prim.Native.Nat.{_+_, _<_};
 ghost use lib.ListN.{length};
 ghost use Rattle.refusals.specs.Numbers.{answerNumber};
 ghost use Rattle.model.specs.Geometry.{Allowed, deviceLength};

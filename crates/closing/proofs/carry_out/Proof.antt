@@ -162,7 +162,7 @@ key-in-requires : tie.Need-key-in-requires Inv-loop μ-loop
 key-in-requires c κs =
     let turn = c .before in
     let w = enough (turn .before .before) in
-    (omega (arith, turn .loop-test .taken), w .3)
+    omega (arith, turn .loop-test .taken, w .3)
 
 mul-store-maps : tie.Need-mul-store-maps Inv-loop μ-loop
 mul-store-maps c = omega (arith, enough (c .before .before .before .before .before .before), volume-enough (c .before .before .before .before))

@@ -111,7 +111,7 @@ loop-holds c =
     )
 
 key-in-requires : tie.Need-key-in-requires Inv-loop μ-loop
-key-in-requires c κs = (volume-most c, start c .pre .5)
+key-in-requires c κs = omega (arith, volume-most c, start c .pre .5)
 
 sub-load-volume : tie.Need-sub-load-volume Inv-loop μ-loop
 sub-load-volume c = omega (arith, begins (c .before))

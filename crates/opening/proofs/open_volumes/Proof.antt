@@ -1,6 +1,7 @@
 -- `opening::open_volumes` meets its contract. Assumes nothing.
 use mathlib.Core.Path.{_≡_, refl, sym, ap, _∙_}
 use Prim.Native.Nat.{_≤_}
+use native.Mathlib.Nat.{le-of-suc-le-suc}
 use native.Mathlib.Omega.{arith}
 use borrow.Author.Needs.{needs}
 use Rattle.refusals.specs.Numbers.{answerNumber}
@@ -9,8 +10,8 @@ use Rattle.model.specs.Opening.{At, firstCell, NotOpened, noMaps, noOwners}
 use Rattle.model.specs.Answers.{openResult}
 use Rattle.model.proofs.Bounds.{cell-fits}
 use Rattle.opening.proofs.Refusals.{answer-refused, answer-served}
-use Rattle.opening.proofs.Outcomes.{found-at, found-below, found-none, withCell-none, withCell-broken, withCell-served}
-use Rattle.opening.proofs.Outcomes.{leaves-refused, leaves-by}
+use Rattle.sealing.proofs.Cells.{found-at, found-below, found-none}
+use Rattle.opening.proofs.Outcomes.{withCell-none, withCell-broken, withCell-served, leaves-refused, leaves-by}
 use Rattle.opening.proofs.open_volumes.Statement.{statement}
 use Rattle.opening.proofs.open_volumes.Tie as tie
 
@@ -25,17 +26,17 @@ module _ (c : tie.After-found) where
   tried = c .before .before .before
 
   at : let a = start tried .args in
-      firstCell (a .key .now) (cellOf (a .device .now)) 15 0 ≡ At (c .found .given .0 .0) (tried .first-cell .last .1 .1 .0)
+      firstCell (a .key .now) (cellOf (a .device .now)) 15 0 ≡ At (c .found .given .0 .0) (tried .first-cell .last .1 .1 .1 .0)
   at =
       let f = tried .first-cell in
       let a = start tried .args in
-      found-at (a .key .now) (cellOf (a .device .now)) (f .result) (f .last .1 .1 .0) (f .ensures) (c .found .given .1)
+      found-at (a .key .now) (cellOf (a .device .now)) (f .result) (f .last .1 .1 .1 .0) 15 (f .ensures) (c .found .given .1)
 
   volume-most : c .found .given .0 .0 ≤ 14
   volume-most =
       let f = tried .first-cell in
       let a = start tried .args in
-      found-below (a .key .now) (cellOf (a .device .now)) (f .result) (f .last .1 .1 .0) (f .ensures) (c .found .given .1)
+      le-of-suc-le-suc (found-below (a .key .now) (cellOf (a .device .now)) (f .result) (f .last .1 .1 .1 .0) 15 (f .ensures) (c .found .given .1))
 
 abbrev found : tie.After-open-chain → tie.After-found
 found c = c .before .before .before .before .before
@@ -45,7 +46,7 @@ found c = c .before .before .before .before .before
 first-cell-requires : tie.Need-first-cell-requires
 first-cell-requires c κs =
     let s = c .before .before .before .before .before in
-    (omega (arith, cell-fits (s .args .g) (s .pre .0) 14 (omega arith), s .pre .1), s .pre .2, refl)
+    (omega (arith, cell-fits (s .args .g) (s .pre .0) 14 (omega arith), s .pre .1), s .pre .2, omega arith, refl)
 
 open-chain-requires : tie.Need-open-chain-requires
 open-chain-requires c κs =
@@ -53,7 +54,7 @@ open-chain-requires c κs =
     let finding = empty .before .before in
     let cell = tried finding in
     let s = start cell in
-    (s .pre .0, s .pre .1, volume-most finding, cell .first-cell .kept .1 .1 .0, empty .no-keys .ensures)
+    (s .pre .0, s .pre .1, volume-most finding, cell .first-cell .kept .1 .1 .1 .0, empty .no-keys .ensures)
 
 returns : tie.Need-returns
 returns c =
@@ -67,7 +68,7 @@ returns c =
     let number = answerNumber (keys .result) in
     let bad = refusing .bad .given .1 in
     leaves-refused (noMaps (a .g)) (noOwners (a .g)) number
-    (withCell-broken (a .g) (headerOf (a .g) (a .device .now)) (finding .found .given .0 .0) (cell .first-cell .last .1 .1 .0) (at finding) number
+    (withCell-broken (a .g) (headerOf (a .g) (a .device .now)) (finding .found .given .0 .0) (cell .first-cell .last .1 .1 .1 .0) (at finding) number
     (keys .last .1 .1 .1 .1 .0) (keys .ensures) (answer-refused bad))
     (ap openResult (c .refused2 .ensures .0) ∙ sym (ap (λ x. NotOpened (answerNumber x)) bad))
     (s .pre .3)
@@ -87,7 +88,7 @@ returns-2 c =
     let s = start cell in
     let a = s .args in
     let f = cell .first-cell in
-    let none = found-none (a .key .now) (cellOf (a .device .now)) (f .result) (f .last .1 .1 .0) (f .ensures) (told .enum-told .given .1) in
+    let none = found-none (a .key .now) (cellOf (a .device .now)) (f .result) (f .last .1 .1 .1 .0) 15 (f .ensures) (told .enum-told .given .1) in
     leaves-refused (noMaps (a .g)) (noOwners (a .g)) 6 (withCell-none (a .g) (headerOf (a .g) (a .device .now)) none)
     (ap openResult (c .refused .ensures .0)) (s .pre .3) (s .pre .4) (c .refused .ensures .1)
 
@@ -103,7 +104,7 @@ returns-3 c =
     let number = answerNumber (keys .result) in
     leaves-by
     (sym
-    (withCell-served (a .g) (headerOf (a .g) (a .device .now)) (finding .found .given .0 .0) (cell .first-cell .last .1 .1 .0) (at finding) number
+    (withCell-served (a .g) (headerOf (a .g) (a .device .now)) (finding .found .given .0 .0) (cell .first-cell .last .1 .1 .1 .0) (at finding) number
     (keys .last .1 .1 .1 .1 .0) (keys .ensures) (answer-served (told .enum-told2 .given .1))))
     _ _ _ _ (loading .open-maps .ensures)
 

@@ -50,7 +50,7 @@ returns c =
     (refl, (refl, refl))
 
 key-in-requires : tie.Need-key-in-requires
-key-in-requires c κs = (volume-most (told c), keys-length (start (checked (told c))))
+key-in-requires c κs = omega (arith, volume-most (told c), keys-length (start (checked (told c))))
 
 entry-at-requires : tie.Need-entry-at-requires
 entry-at-requires c κs = let r = ready (told (c .before .before)) in asked-slot (r .stands) (r .asked)

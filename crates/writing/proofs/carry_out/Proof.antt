@@ -1,5 +1,5 @@
 -- `writing::carry_out` meets its contract: what was decided is carried out with the bytes drawn. Assumes nothing.
-use Prim.Native.Nat.{ℕ, _-_, _<_, _≤_}
+use Prim.Native.Nat.{ℕ, _<_, _≤_}
 use mathlib.Core.Path.{_≡_, refl, sym, ap, subst}
 use native.Mathlib.Nat.{sub-zero, zero-add}
 use native.Mathlib.Omega.{arith}
@@ -63,7 +63,7 @@ abbrev decided : tie.After-key-in → tie.After-decision2
 decided c = c .before .before .before .before
 
 key-in-requires : tie.Need-key-in-requires
-key-in-requires c κs = let d = c .before .before .before in (volume-small (start d) _ (fit d), keys-length (start d))
+key-in-requires c κs = let d = c .before .before .before in omega (arith, volume-small (start d) _ (fit d), keys-length (start d))
 
 rewrite-requires : tie.Need-rewrite-requires
 rewrite-requires c κs =
@@ -105,7 +105,7 @@ abbrev keyed : tie.After-claim → tie.After-key-in2
 keyed c = c .before .before .before
 
 key-in-requires-2 : tie.Need-key-in-requires-2
-key-in-requires-2 c κs = let d = c .before .before .before in (volume-small (start′ d) _ (fit′ d), keys-length (start′ d))
+key-in-requires-2 c κs = let d = c .before .before .before in omega (arith, volume-small (start′ d) _ (fit′ d), keys-length (start′ d))
 
 claim-requires : tie.Need-claim-requires
 claim-requires c κs =

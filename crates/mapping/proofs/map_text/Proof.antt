@@ -1,28 +1,25 @@
--- `closing::map_text` meets its contract. After e turns the first e entries are stored. Assumes nothing.
+-- `mapping::map_text` meets its contract. After e turns the first e entries are stored. Assumes nothing.
 use mathlib.Core.Path.{_≡_, refl, sym, ap, _∙_, subst}
 use mathlib.Core.List.{List}
-use Prim.Native.Nat.{ℕ, _+_, _-_, _*_, _≤_}
+use Prim.Native.Nat.{ℕ, _-_, _*_, _≤_}
 use native.Mathlib.Omega.{arith}
 use lib.ListN.{length}
 use borrow.Author.Needs.{needs}
-use lib.Dec.{ltb}
-use Rattle.model.specs.Parts.{choose, overlay, joined}
+use Rattle.model.specs.Parts.{overlay, joined}
 use Rattle.model.specs.Geometry.{perBlock, fourBytes}
-use Rattle.model.specs.Session.{entry, unmapped}
 use Rattle.model.proofs.Parts.{overlay-length}
 use Rattle.model.proofs.Bounds.{b-bounds, entries-small}
-use Rattle.model.proofs.MapBlocks.{entryBytes}
+use Rattle.mapping.specs.Rows.{rowEntry}
 use Rattle.places.proofs.Parts.{overlay-none}
-use Rattle.closing.proofs.MapBlocks.{mapText-turn, mapText-done}
-use Rattle.closing.proofs.map_text.Statement.{statement}
-use Rattle.closing.proofs.map_text.Tie as tie
+use Rattle.mapping.proofs.Rows.{rowText-turn, rowText-done}
+use Rattle.mapping.proofs.map_text.Statement.{statement}
+use Rattle.mapping.proofs.map_text.Tie as tie
 
 abbrev Inv-loop : tie.InvT-loop
-Inv-loop maps g volume t buf₀ n e₀ buf e =
-    (e ≤ n) × (buf ≡ overlay buf₀ 0 (joined e (entryBytes maps g volume t))) × (length buf ≡ length buf₀)
+Inv-loop row t buf₀ n e₀ buf e = (e ≤ n) × (buf ≡ overlay buf₀ 0 (joined e (rowEntry row n t))) × (length buf ≡ length buf₀)
 
 abbrev μ-loop : tie.MeasureT-loop
-μ-loop maps g volume t buf₀ n e₀ buf e = n - e
+μ-loop row t buf₀ n e₀ buf e = n - e
 
 -- What was lent before the loop, and the number of entries.
 module _ (c : tie.At-loop Inv-loop μ-loop) where
@@ -33,7 +30,7 @@ module _ (c : tie.At-loop Inv-loop μ-loop) where
   n = c .before .entries-per-block .result
 
   abbrev entries : ℕ → List ℕ
-  entries = let a = start .args in entryBytes (a .maps .now) (a .g) (a .volume) (a .t)
+  entries = let a = start .args in rowEntry (a .row .now) n (a .t)
 
   many : n ≡ perBlock (start .args .g)
   many = c .before .entries-per-block .ensures
@@ -43,10 +40,10 @@ module _ (c : tie.At-loop Inv-loop μ-loop) where
   few =
       let a = start .args in
       let small = b-bounds (a .g) (start .pre .0) .1 in
-      (omega (arith, many), subst (λ (y : ℕ). a .t * y ≤ 17 * 1020) (sym many) (entries-small (a .g) (start .pre .0) (a .t) (start .pre .3)))
+      (omega (arith, many), subst (λ (y : ℕ). a .t * y ≤ 17 * 1020) (sym many) (entries-small (a .g) (start .pre .0) (a .t) (start .pre .1)))
 
 put-number-requires : tie.Need-put-number-requires Inv-loop μ-loop
-put-number-requires c κs = let l = c .before .before .before in omega (arith, many l, start l .pre .4, l .loop .inv .2)
+put-number-requires c κs = let l = c .before .before .before in omega (arith, many l, start l .pre .2, l .loop .inv .2)
 
 loop-again : tie.Need-loop-again Inv-loop μ-loop
 loop-again c =
@@ -56,32 +53,21 @@ loop-again c =
     let l = at .loop in
     let a = start at .args in
     let s : put .put-number .last .0 ≡ overlay (l .buf) (l .e * 4) (entries at (l .e)) =
-    put .put-number .ensures ∙ ap (λ (x : ℕ). overlay (l .buf) (l .e * 4) (fourBytes x)) (entered .map-entry .ensures ∙ entry-at at) in (
+    put .put-number .ensures ∙ ap (λ (x : ℕ). overlay (l .buf) (l .e * 4) (fourBytes x)) (entered .entry-in .ensures) in (
       search needs,
       s
           ∙ ap (λ (b : List ℕ). overlay b (l .e * 4) (entries at (l .e))) (l .inv .1)
-          ∙ mapText-turn (a .maps .now) (a .g) (a .volume) (a .t) (a .buf .now) (l .e),
+          ∙ rowText-turn (a .row .now) (a .t) (n at) (a .buf .now) (l .e),
       ap length s ∙ overlay-length (l .buf) (l .e * 4) (entries at (l .e)) ∙ l .inv .2,
     )
-  where
-    -- The entry at place e of the block, where the block has y entries.
-    entryBy : (at : tie.At-loop Inv-loop μ-loop) → ℕ → ℕ
-    entryBy at y =
-        let a = start at .args in
-        choose (ltb (a .t * y + at .loop .e) (a .g .p)) (entry (a .maps .now) (a .g) (a .volume) (a .t * y + at .loop .e)) unmapped
-
-    entry-at : (at : tie.At-loop Inv-loop μ-loop) → entryBy at (n at) ≡ entryBy at (perBlock (start at .args .g))
-    entry-at at = ap (entryBy at) (many at)
 
 returns : tie.Need-returns Inv-loop μ-loop
 returns c =
     let at = c .before in
     let a = start at .args in
     let l = at .loop in
-    let all : l .e ≡ perBlock (a .g) = omega (arith, many at) in
     l .inv .1
-    ∙ ap (λ (n : ℕ). overlay (a .buf .now) 0 (joined n (entries at))) all
-    ∙ mapText-done (a .maps .now) (a .g) (a .volume) (a .t) (start at .pre .0) (a .buf .now) (start at .pre .4)
+    ∙ rowText-done (a .row .now) (a .t) (a .g) (start at .pre .0) (n at) (l .e) (a .buf .now) (many at) (omega arith) (start at .pre .2)
 
 pub map-text-spec : {M : Type 1} → statement M
 map-text-spec =

@@ -1,12 +1,12 @@
--- `opening::open_cell` meets its contract: the parts that it lends are those of the cell. Assumes nothing.
+-- `sealing::open_cell` meets its contract: the parts that it lends are those of the cell. Assumes nothing.
 use mathlib.Core.Path.{refl}
 use mathlib.Core.List.{[], _∷_}
 use Prim.Native.Nat.{_+_, _*_}
 use native.Mathlib.Omega.{arith}
 use borrow.Author.Needs.{needs}
-use Rattle.opening.proofs.Headers.{part-inner, open-parts}
-use Rattle.opening.proofs.open_cell.Statement.{statement}
-use Rattle.opening.proofs.open_cell.Tie as tie
+use Rattle.sealing.proofs.Cells.{part-inner, open-parts}
+use Rattle.sealing.proofs.open_cell.Statement.{statement}
+use Rattle.sealing.proofs.open_cell.Tie as tie
 
 returns : tie.Need-returns
 returns c =

@@ -1,4 +1,4 @@
--- `closing::store_map` meets its contract: the memory that it lends on is as long as the entries. Assumes nothing.
+-- `mapping::store_map` meets its contract: the memory that it lends on is as long as the entries. Assumes nothing.
 use mathlib.Core.Path.{_≡_, sym}
 use Prim.Native.Nat.{ℕ, _-_, _≤_}
 use native.Mathlib.Omega.{arith}
@@ -8,8 +8,8 @@ use borrow.Author.Needs.{needs}
 use Rattle.model.specs.declared.Geometry.{Geometry}
 use Rattle.model.specs.Geometry.{Allowed}
 use Rattle.model.proofs.Bounds.{b-bounds}
-use Rattle.closing.proofs.store_map.Statement.{statement}
-use Rattle.closing.proofs.store_map.Tie as tie
+use Rattle.mapping.proofs.store_map.Statement.{statement}
+use Rattle.mapping.proofs.store_map.Tie as tie
 
 module _ (g : Geometry) (ok : Allowed g) where
   room : g .b - 16 ≤ 4096
@@ -34,7 +34,7 @@ store-map-in-requires c κs =
     let text = c .before in
     let start = text .before .before .before .before .before .before in
     let p = start .pre in
-    (p .0, p .1, p .2, p .3, p .4, p .5, p .6, lent-long (start .args .g) (p .0))
+    (p .0, p .1, p .2, p .3, p .4, lent-long (start .args .g) (p .0))
 
 pub store-map-spec : {M : Type 1} → statement M
 store-map-spec =
