@@ -6,11 +6,15 @@ ghost use lib.ListN.{length};
 ghost use Rattle.model.specs.Session.{held};
 ghost use Rattle.model.specs.Write.{WriteResult, writeModel};
 ghost use Rattle.model.specs.Close.{CloseResult, closeModel};
-ghost use Rattle.model.specs.Answers.{writeResult, closeResult, Leaves};
+ghost use Rattle.model.specs.Format.{formatModel};
+ghost use Rattle.model.specs.Answers.{writeResult, closeResult, Leaves, FormatLeaves};
+ghost use Rattle.refusals.specs.Numbers.{answerNumber};
+use model::Geometry;
 use model::Reply;
 use model::Session;
 use model::TapePosition;
 use model::Written;
+use refusals::Answer;
 
 // `writing::write` with the tape position as a number.
 pub fn write_at(
@@ -62,6 +66,24 @@ pub fn close_at(
 {
     let mut position = TapePosition { at: *at };
     let r = closing::close(device, maps, owners, tape, &mut position, session);
+    *at = position.at;
+    r
+}
+
+// `formatting::format` with the tape position as a number.
+pub fn format_at(
+    device: &mut [u8],
+    g: Geometry,
+    count: usize,
+    keys: &[u8],
+    tape: &[u8],
+    at: &mut usize,
+) -> Answer
+    ensures { λ r. ⌜ FormatLeaves (formatModel (length (now (device .entry))) g count (now (keys .entry)) (now (tape .entry)) (now (at .entry)))
+        (now (device .entry)) (now (at .entry)) (answerNumber r) (now (device .exit)) (now (at .exit)) ⌝ }
+{
+    let mut position = TapePosition { at: *at };
+    let r = formatting::format(device, g, count, keys, tape, &mut position);
     *at = position.at;
     r
 }

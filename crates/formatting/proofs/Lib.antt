@@ -1,0 +1,4 @@
+pub mod Draws
+pub mod Made
+pub mod Refusals
+pub mod Carries
