@@ -1,9 +1,6 @@
-// A demonstration of the engine: a small device image with two volumes is made, opened, written, read, closed and opened
-// again with either key and with one that opens nothing, and every answer is printed. Keys, IVs and tape are fixed bytes here,
-// so that each run prints the same; a real device draws them at random.
-ghost use mathlib.Core.Path.{_≡_};
-ghost use Prim.Native.Nat.{_+_, _*_, _<_};
-ghost use lib.ListN.{length};
+// A demonstration of the engine: a small device image with two volumes is formatted, opened, written, read, closed and opened
+// again with either key and with one that opens nothing, and every answer is printed. Keys and tape are fixed bytes here, so that
+// each run prints the same; a real device has them drawn at random.
 use libc::STDOUT_FILENO;
 use model::Change;
 use model::Geometry;
@@ -90,91 +87,15 @@ fn caller_key(i: usize) -> [u8; 32] {
     [(1 + i % 3) as u8; 32]
 }
 
-// The VMK of volume 0 or 1.
-fn master_key(i: usize) -> [u8; 32] {
-    [(64 + i % 2) as u8; 32]
+// The keys of volumes 0 and 1 end to end.
+fn caller_keys() -> [u8; 64] {
+    let mut keys = [0u8; 64];
+    places::store(&mut keys, 0, &caller_key(0));
+    places::store(&mut keys, 32, &caller_key(1));
+    keys
 }
 
-// What header 0 or 1 holds as the VMK below: nothing lies below volume 0.
-fn key_below(i: usize) -> [u8; 32] {
-    if i == 0 { [0u8; 32] } else { master_key(0) }
-}
-
-// The VEK of volume 0 or 1.
-fn data_key(i: usize) -> [u8; 32] {
-    [(128 + i % 2) as u8; 32]
-}
-
-// Key cell i: the VMK sealed under the caller's key.
-fn make_cell(device: &mut [u8], i: usize)
-    requires { ⌜ (i < 2) × (length (now device) ≡ 52224) ⌝ }
-{
-    let iv = [(10 + i % 2) as u8; 12];
-    let aad = [(i % 2) as u8];
-    let mut sealed = [0u8; 32];
-    let mut tag = [0u8; 16];
-    gcm::seal(
-        &caller_key(i),
-        &iv,
-        &aad,
-        &master_key(i),
-        &mut sealed,
-        &mut tag,
-    );
-    let at = 16 + 60 * i;
-    places::store(device, at, &iv);
-    places::store(device, at + 12, &sealed);
-    places::store(device, at + 44, &tag);
-}
-
-// The text of header i: VEK, VMK of the volume below, P, S.
-fn header_text(i: usize) -> [u8; 72]
-    requires { ⌜ i < 2 ⌝ }
-{
-    let mut text = [0u8; 72];
-    places::store(&mut text, 0, &data_key(i));
-    places::store(&mut text, 32, &key_below(i));
-    places::put_number(&mut text, 64, 4);
-    places::put_number(&mut text, 68, 4);
-    text
-}
-
-// Volume header i, sealed under its VMK.
-fn make_header(device: &mut [u8], i: usize)
-    requires { ⌜ (i < 2) × (length (now device) ≡ 52224) ⌝ }
-{
-    let iv = [(20 + i % 2) as u8; 12];
-    let aad = [(16 + i % 2) as u8];
-    let mut sealed = [0u8; 72];
-    let mut tag = [0u8; 16];
-    gcm::seal(
-        &master_key(i),
-        &iv,
-        &aad,
-        &header_text(i),
-        &mut sealed,
-        &mut tag,
-    );
-    let at = 1024 + 2048 * i;
-    places::store(device, at, &iv);
-    places::store(device, at + 12, &sealed);
-    places::store(device, at + 84, &tag);
-}
-
-// The map block of volume i: all entries unmapped.
-fn make_map(device: &mut [u8], i: usize)
-    requires { ⌜ (i < 2) × (length (now device) ≡ 52224) ⌝ }
-{
-    let iv = [(30 + i % 2) as u8; 16];
-    let marks = [255u8; 1008];
-    let at = 2048 + 2048 * i;
-    places::store(device, at, &iv);
-    let from = at + 16;
-    let end = at + 1024;
-    ctr::counter_mode(&data_key(i), &iv, &marks, &mut device[from..end]);
-}
-
-// Bytes that differ from place to place: noise for the image, and the tape.
+// Bytes that differ from place to place: the tape, and a text.
 fn fill(bytes: &mut [u8]) {
     let mut i = 0;
     while i < bytes.len() {
@@ -183,19 +104,25 @@ fn fill(bytes: &mut [u8]) {
     }
 }
 
-fn make_image(device: &mut [u8])
-    requires { ⌜ length (now device) ≡ 52224 ⌝ }
-{
-    fill(device);
-    make_cell(device, 0);
-    make_cell(device, 1);
-    make_header(device, 0);
-    make_header(device, 1);
-    make_map(device, 0);
-    make_map(device, 1);
+// ---- the calls
+
+fn show_format(words: &[u8], device: &mut [u8], keys: &[u8], tape: &[u8], at: &mut usize) {
+    say(words);
+    let answer = lending::format_at(device, geometry(), 2, keys, tape, at);
+    say_answer(answer);
+    say(b", tape position ");
+    let position = *at;
+    say_number(position);
+    say(b"\n");
 }
 
-// ---- the calls
+// The device is made: not with one key for both volumes, since it would open the lower one alone.
+fn show_making(device: &mut [u8], tape: &[u8], at: &mut usize) {
+    let twice = [1u8; 64];
+    show_format(b"format with one key twice: ", device, &twice, tape, at);
+    let keys = caller_keys();
+    show_format(b"format with keys 0 and 1: ", device, &keys, tape, at);
+}
 
 fn show_open(
     words: &[u8],
@@ -353,12 +280,12 @@ fn show_work(
     owners: &mut [u8],
     perm: &[u32],
     tape: &[u8],
+    at: &mut usize,
     session: Session,
     text: &[u8],
 ) {
-    let mut at: usize = 0;
-    show_requests(device, maps, owners, perm, tape, &mut at, session, text);
-    let closed = show_close(device, maps, owners, tape, &mut at, session);
+    show_requests(device, maps, owners, perm, tape, at, session, text);
+    let closed = show_close(device, maps, owners, tape, at, session);
     show_read(device, maps, owners, closed, 1);
 }
 
@@ -369,11 +296,12 @@ fn show_session(
     owners: &mut [u8],
     perm: &[u32],
     tape: &[u8],
+    at: &mut usize,
     text: &[u8],
 ) {
     let session = show_open(b"open with key ", device, 1, maps, owners, perm);
     show_read(device, maps, owners, session, 1);
-    show_work(device, maps, owners, perm, tape, session, text);
+    show_work(device, maps, owners, perm, tape, at, session, text);
 }
 
 // The device opened again with key 1: what was written is there.
@@ -400,14 +328,13 @@ fn show(device: &mut [u8], tape: &[u8], text: &[u8]) {
     let perm = [2u32, 0, 3, 1];
     let mut maps = [0u32; 60];
     let mut owners = [0u8; 4];
-    show_session(device, &mut maps, &mut owners, &perm, tape, text);
+    let mut at: usize = 0;
+    show_making(device, tape, &mut at);
+    show_session(device, &mut maps, &mut owners, &perm, tape, &mut at, text);
     show_again(device, &mut maps, &mut owners, &perm);
 }
 
-fn run(device: &mut [u8], tape: &mut [u8], text: &mut [u8])
-    requires { ⌜ length (now device) ≡ 52224 ⌝ }
-{
-    make_image(device);
+fn run(device: &mut [u8], tape: &mut [u8], text: &mut [u8]) {
     fill(tape);
     fill(text);
     show(device, tape, text);
@@ -415,7 +342,7 @@ fn run(device: &mut [u8], tape: &mut [u8], text: &mut [u8])
 
 fn main() {
     let mut device = [0u8; 52224];
-    let mut tape = [0u8; 4096];
+    let mut tape = [0u8; 56320];
     let mut text = [0u8; 1024];
     run(&mut device, &mut tape, &mut text);
 }
