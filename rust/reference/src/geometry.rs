@@ -5,7 +5,7 @@ use std::ops::Range;
 /// Volumes of a stick.
 pub const VOLUMES: usize = 15;
 /// The bytes of a key cell: IV 12, ciphertext 32, tag 16.
-const CELL: usize = 60;
+pub const CELL: usize = 60;
 /// The bytes of the salt before the cells.
 const SALT: usize = 16;
 /// The bytes of a counter-mode IV.

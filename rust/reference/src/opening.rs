@@ -60,7 +60,7 @@ fn names_each_slice_once(permutation: &[u32], p: usize) -> bool {
 }
 
 /// Decrypts a text that is stored as IV 12, ciphertext and tag 16. None where the tag is wrong.
-fn gcm_open<const N: usize>(key: &[u8; KEY], aad: u8, sealed: &[u8]) -> Option<[u8; N]> {
+pub(crate) fn gcm_open<const N: usize>(key: &[u8; KEY], aad: u8, sealed: &[u8]) -> Option<[u8; N]> {
     let (iv, rest) = sealed.split_at(12);
     let (cipher, rest) = rest.split_at(N);
     let tag = rest[..gcm::TAG].try_into().unwrap();

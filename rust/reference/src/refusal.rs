@@ -1,4 +1,4 @@
-//! The refusals of document 01.
+//! The refusals of documents 01 and 02.
 
 /// Why a call is refused, with the document's number.
 #[derive(Clone, Copy, PartialEq, Eq, Debug)]
@@ -8,7 +8,7 @@ pub enum Refusal {
     BadGeometry = 1,
     /// The device is not as long as its geometry says.
     DeviceLength = 2,
-    /// The key is not 32 bytes.
+    /// The key is not 32 bytes, or the keys are not 32 bytes each.
     KeyLength = 3,
     /// The map table is not 15 x P entries, or the owner table not P bytes.
     TableLength = 4,
@@ -40,6 +40,10 @@ pub enum Refusal {
     TapeShort = 21,
     /// No slice that the permutation names is free.
     NoFreeSlice = 22,
+    /// No key to format with, or more than 15.
+    KeyCount = 23,
+    /// A key opens the cell of a lower volume.
+    LowerCell = 24,
 }
 
 impl Refusal {

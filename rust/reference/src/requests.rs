@@ -200,7 +200,7 @@ pub fn close(
 }
 
 /// Writes the IV and the entries of a map block. Entries past the last are unmapped: four bytes FF.
-fn write_map_block(key: &[u8; KEY], drawn: &[u8], entries: &[u32], block: &mut [u8]) {
+pub(crate) fn write_map_block(key: &[u8; KEY], drawn: &[u8], entries: &[u32], block: &mut [u8]) {
     let (iv, text) = block.split_at_mut(IV);
     iv.copy_from_slice(drawn);
     text.fill(0xff);

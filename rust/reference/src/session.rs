@@ -62,6 +62,7 @@ pub fn tables_fit(geometry: Geometry, maps: &[u32], owners: &[u8]) -> bool {
 
 /// Random bytes, and the position of the next one that is not used, which the document calls the
 /// tape mark.
+#[derive(Clone)]
 pub struct Tape<'a> {
     pub bytes: &'a [u8],
     pub position: usize,
