@@ -2,8 +2,8 @@
  * Hiwalgam: the proved engine of an encrypted memory stick with up to 15 nested volumes.
  *
  * A device is the image of a stick, held in memory. A key opens a volume and all volumes below it; what
- * lies above is noise. docs/FORMAT.md describes the device, the calls and their refusals. No function here
- * makes a device, reads it from a stick or stores it there: that is the caller's.
+ * lies above is noise. docs/FORMAT.md describes the device, the calls and their refusals. hiwalgam_format
+ * makes a device. No function here reads it from a stick or stores it there: that is the caller's.
  *
  * Every function takes any arguments and returns HIWALGAM_SERVED or the first refusal that applies, in the
  * order in which its comment lists them. A refused call changes nothing that it was lent, but for the tables
@@ -40,7 +40,7 @@ enum hiwalgam_answer {
     HIWALGAM_SERVED = 0,
     HIWALGAM_BAD_GEOMETRY = 1,    /* B, S or P is not allowed */
     HIWALGAM_DEVICE_LENGTH = 2,   /* the device is not as long as its geometry says */
-    HIWALGAM_KEY_LENGTH = 3,      /* the key is not 32 bytes */
+    HIWALGAM_KEY_LENGTH = 3,      /* the key is not 32 bytes, or the keys not 32 bytes each */
     HIWALGAM_TABLE_LENGTH = 4,    /* the map table has not 15 x P entries, or the owner table not P */
     HIWALGAM_BAD_PERMUTATION = 5, /* the permutation does not name each slice once */
     HIWALGAM_NO_CELL = 6,         /* the key opens no key cell */
@@ -55,7 +55,9 @@ enum hiwalgam_answer {
     HIWALGAM_TAG_DIFFERS = 15,    /* the tag is wrong */
     HIWALGAM_NOT_OPEN = 20,       /* the session is closed, or holds numbers that are not allowed */
     HIWALGAM_TAPE_SHORT = 21,     /* the tape has fewer bytes left than the call takes */
-    HIWALGAM_NO_FREE_SLICE = 22   /* no slice is free for a claim */
+    HIWALGAM_NO_FREE_SLICE = 22,  /* no slice is free for a claim */
+    HIWALGAM_KEY_COUNT = 23,      /* no key, or more than 15 */
+    HIWALGAM_LOWER_CELL = 24      /* a key opens the cell of a lower volume */
 };
 
 /* Volumes of a stick, numbered from 0, and the bytes of a key, an IV and a tag. */
@@ -141,6 +143,23 @@ _Static_assert(sizeof(size_t) == 8, "a platform of 64 bits");
 #define HIWALGAM_OUT(p, n)
 #define HIWALGAM_INOUT(p, n)
 #endif
+
+/*
+ * Formats a device, whatever it held: a volume for each of count keys, 1 to 15, which stand end to end in
+ * keys, 32 bytes each. Key i then opens the volumes 0 to i, and every block of them is zeros.
+ *
+ * Fills the whole device from the tape, then draws a master key and a data key for each volume, and the IVs of
+ * what it seals: device_length + count x (88 + 16 x m) bytes of the tape in all. *position is the next unused
+ * byte of the tape, and is moved on. The tape then holds the keys of the volumes: it is to be wiped.
+ *
+ * Refused by 13 (geometry of another size), 1, 2, 23, 3, 21, 24. The 24 comes where a key is given twice; with
+ * keys that differ it is as unlikely as a forged tag.
+ */
+uint8_t hiwalgam_format(uint8_t *device, size_t device_length,
+                        const hiwalgam_geometry *geometry, size_t geometry_size,
+                        size_t count, const uint8_t *keys, size_t keys_length,
+                        const uint8_t *tape, size_t tape_length, size_t *position)
+    HIWALGAM_ANSWERS HIWALGAM_OUT(1, 2) HIWALGAM_IN(6, 7) HIWALGAM_IN(8, 9) HIWALGAM_NOT_NULL(10);
 
 /*
  * Opens a device with a key: the lowest volume whose key cell the key opens, and all below it.

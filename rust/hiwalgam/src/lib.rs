@@ -8,6 +8,9 @@
 //! first [`Refusal`] that applies; the wrapper adds no test of its own. Everything is lent: no call
 //! keeps anything between two calls.
 //!
+//! [`format`] makes a device, [`Session::open`] opens it with a key, and the session reads, writes and
+//! closes. Reading the image from a stick and storing it there is the caller's work.
+//!
 //! ```
 //! use hiwalgam::{Block, Change, Geometry, Refusal, Session, Tables, Tape};
 //!
@@ -30,22 +33,13 @@
 //!     assert_eq!(buffer, text);
 //!     Ok(())
 //! }
-//! # // A device with one volume that is empty. Its cell and its header are sealed with IVs of zeros.
-//! # fn image(key: &[u8]) -> Result<Vec<u8>, Refusal> {
-//! #     let (vmk, vek) = ([1; 32], [2; 32]);
-//! #     let header = [&vek[..], &[0; 32], &[0, 0, 0, 4, 0, 0, 0, 4]].concat();
-//! #     let (mut device, mut tag) = (vec![0; 52_224], [0; 16]);
-//! #     hiwalgam::gcm_seal(key, &[0; 12], &[0], &vmk, &mut device[28..60], &mut tag)?;
-//! #     device[60..76].copy_from_slice(&tag);
-//! #     hiwalgam::gcm_seal(&vmk, &[0; 12], &[16], &header, &mut device[1036..1108], &mut tag)?;
-//! #     device[1108..1124].copy_from_slice(&tag);
-//! #     hiwalgam::counter_mode(&vek, &[0; 16], &[0xff; 1008], &mut device[2064..3072])?;
-//! #     Ok(device)
-//! # }
 //! # fn main() -> Result<(), Refusal> {
-//! #     let (mut device, random, text) = (image(&[7; 32])?, [0x5a; 1040], [3; 1024]);
+//! #     let geometry = Geometry { block_bytes: 1024, slice_blocks: 4, slices: 4 };
+//! #     let (mut device, key, text) = (vec![0; geometry.device_length()], [7; 32], [3; 1024]);
+//! #     let random = vec![0x5a; geometry.format_tape_length(1)];
+//! #     hiwalgam::format(&mut device, geometry, 1, &key, &mut Tape::new(&random))?;
 //! #     assert_eq!(keep(&mut device, &[8; 32], &random, &text), Err(Refusal::NoCell));
-//! #     keep(&mut device, &[7; 32], &random, &text)
+//! #     keep(&mut device, &key, &random, &text)
 //! # }
 //! ```
 //!
@@ -56,7 +50,7 @@
 //! - **Authentic blocks.** Key cells and headers carry tags. Maps and data blocks do not: whoever
 //!   alters the device alters what is read from them.
 //! - **Random bytes.** The caller draws them, and uses none for two calls: two texts under one key
-//!   and IV betray each other.
+//!   and IV betray each other, and the tape of a formatting holds the keys of its volumes.
 //! - **Two sessions at once.** What is proved holds where, from an opening to its close, nothing but
 //!   these calls alters device, tables, tape position and session.
 //! - **Torn writes.** A claim is in the device's maps only after a close, and a call that is cut off
@@ -73,12 +67,14 @@
 compile_error!("libhiwalgam.a is built for x86-64 Linux");
 
 mod ciphers;
+mod formatting;
 mod refusal;
 mod session;
 pub mod sys;
 mod types;
 
 pub use ciphers::{counter_mode, gcm_open, gcm_seal, keystream_at};
+pub use formatting::format;
 pub use refusal::Refusal;
 pub use session::Session;
 pub use sys::Geometry;

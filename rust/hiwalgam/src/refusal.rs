@@ -13,7 +13,7 @@ pub enum Refusal {
     BadGeometry = 1,
     /// The device is not as long as the geometry says.
     DeviceLength = 2,
-    /// The key is not 32 bytes.
+    /// The key is not 32 bytes, or the keys to format with are not 32 bytes each.
     KeyLength = 3,
     /// The map table has not 15 entries for each slice, or the owner table not one.
     TableLength = 4,
@@ -45,11 +45,15 @@ pub enum Refusal {
     TapeShort = 21,
     /// No slice is free for a claim.
     NoFreeSlice = 22,
+    /// There is no key to format with, or more than 15.
+    KeyCount = 23,
+    /// A key opens the key cell of a lower volume.
+    LowerCell = 24,
 }
 
 impl Refusal {
     /// All refusals, in the order of their numbers.
-    pub const ALL: [Refusal; 18] = [
+    pub const ALL: [Refusal; 20] = [
         Refusal::BadGeometry,
         Refusal::DeviceLength,
         Refusal::KeyLength,
@@ -68,6 +72,8 @@ impl Refusal {
         Refusal::NotOpen,
         Refusal::TapeShort,
         Refusal::NoFreeSlice,
+        Refusal::KeyCount,
+        Refusal::LowerCell,
     ];
 
     /// The number that the C functions answer.
@@ -85,7 +91,7 @@ impl Refusal {
         match self {
             Refusal::BadGeometry => "the geometry is not allowed",
             Refusal::DeviceLength => "the device is not as long as the geometry says",
-            Refusal::KeyLength => "the key is not 32 bytes",
+            Refusal::KeyLength => "a key is not 32 bytes",
             Refusal::TableLength => "the map table or the owner table has a wrong length",
             Refusal::BadPermutation => "the permutation does not name each slice once",
             Refusal::NoCell => "the key opens no key cell",
@@ -101,6 +107,8 @@ impl Refusal {
             Refusal::NotOpen => "the session is not open",
             Refusal::TapeShort => "the tape has too few bytes left",
             Refusal::NoFreeSlice => "no slice is free",
+            Refusal::KeyCount => "there is no key, or more than 15",
+            Refusal::LowerCell => "a key opens the cell of a lower volume",
         }
     }
 }

@@ -118,6 +118,17 @@ pub struct Written {
 
 #[rustfmt::skip]
 extern "C" {
+    /// Makes a blank device from a tape, whose volumes 0 to `i` key `i` opens. `keys` are `count`
+    /// keys of 32 bytes, end to end.
+    ///
+    /// Refused by 13 (geometry of another size), 1, 2, 23, 3, 21, 24.
+    pub fn hiwalgam_format(
+        device: *mut u8, device_length: usize,
+        geometry: *const Geometry, geometry_size: usize,
+        count: usize, keys: *const u8, keys_length: usize,
+        tape: *const u8, tape_length: usize, position: *mut usize,
+    ) -> u8;
+
     /// Opens a device with a key: the lowest volume whose cell the key opens, and all below it.
     ///
     /// Refused by 13 (geometry or session of another size; everything stays), 1, 2, 3, 4, 5 (the

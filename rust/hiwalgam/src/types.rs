@@ -4,11 +4,47 @@ use std::error::Error;
 use std::fmt;
 
 use crate::refusal::answered;
-use crate::sys::{self, Geometry, UNMAPPED, VOLUMES};
+use crate::sys::{self, Geometry, GCM_IV_BYTES, IV_BYTES, KEY_BYTES, UNMAPPED, VOLUMES};
 use crate::Refusal;
 
 /// The most slices of a device.
 const SLICES_LIMIT: u64 = 4096;
+
+// A length is 0 where B, S or P is not allowed, which every call refuses before it looks at a length.
+impl Geometry {
+    /// The bytes of a device, B x (1 + 15 x (1 + m) + P x (S + 1)), where m is the number of map
+    /// blocks of each volume; 0 where B, S or P is not allowed.
+    pub fn device_length(self) -> usize {
+        let blocks = |m| 1 + VOLUMES as u64 * (1 + m) + self.slices * (self.slice_blocks + 1);
+        let length = self.map_blocks().map(|m| self.block_bytes * blocks(m));
+        length.unwrap_or(0) as usize
+    }
+
+    /// The bytes of the tape that [`format`](crate::format) takes with `count` keys: the device's,
+    /// and 88 + 16 x m for each key; 0 where B, S or P is not allowed.
+    pub fn format_tape_length(self, count: usize) -> usize {
+        // More keys are refused before the tape is looked at.
+        let count = count.min(VOLUMES);
+        let volume = |m| 2 * KEY_BYTES + 2 * GCM_IV_BYTES + IV_BYTES * m as usize;
+        let volumes = self.map_blocks().map(|m| count * volume(m));
+        self.device_length() + volumes.unwrap_or(0)
+    }
+
+    /// m, the map blocks of each volume. None where B, S or P is not allowed.
+    fn map_blocks(self) -> Option<u64> {
+        let Geometry {
+            block_bytes: b,
+            slice_blocks: s,
+            slices: p,
+        } = self;
+        let iv = IV_BYTES as u64;
+        let allowed = matches!(b, 1024 | 4096)
+            && (1..=b / iv).contains(&s)
+            && (1..=SLICES_LIMIT).contains(&p);
+        // An entry has four bytes.
+        allowed.then(|| p.div_ceil((b - iv) / 4))
+    }
+}
 
 /// A block of a volume.
 #[derive(Clone, Copy, PartialEq, Eq, Hash, Debug)]
@@ -45,11 +81,12 @@ impl Tables {
 
 /// Random bytes, each of which is used once, and the position of the next one that is unused.
 ///
-/// The bytes become IVs. `Debug` does not show them.
+/// The bytes become IVs, and those of a formatting also the keys of its volumes. `Debug` does not
+/// show them.
 pub struct Tape<'a> {
     /// The whole tape, the used bytes included.
     pub bytes: &'a [u8],
-    /// The next unused byte. A served write or close moves it on.
+    /// The next unused byte. A served formatting, write or close moves it on.
     pub position: usize,
 }
 

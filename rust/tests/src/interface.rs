@@ -131,8 +131,18 @@ pub trait Ciphers: Debug {
     ) -> Answer;
 }
 
-/// The five calls of one implementation of the engine.
+/// The six calls of one implementation of the engine.
 pub trait Engine: Debug {
+    /// `numbers` are B, S and P, and `keys` is to hold `count` keys end to end.
+    fn format(
+        &self,
+        device: &mut [u8],
+        numbers: [usize; 3],
+        count: usize,
+        keys: &[u8],
+        tape: &mut Tape,
+    ) -> Answer;
+
     /// `numbers` are B, S and P. Whatever `session` holds is replaced.
     fn open(
         &self,

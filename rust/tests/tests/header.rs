@@ -196,7 +196,7 @@ fn declared_functions() -> Functions {
 #[test]
 fn functions_are_the_headers() {
     let (functions, _) = header_functions();
-    assert_eq!(functions.len(), 9);
+    assert_eq!(functions.len(), 10);
     assert_eq!(declared_functions(), functions);
 }
 

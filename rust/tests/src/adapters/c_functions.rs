@@ -127,6 +127,30 @@ fn answer(number: u8) -> Answer {
 // In each call every pointer and the length after it come from one list or struct, which is borrowed
 // until the call returns, mutably where the call writes. A record's size is at most its memory's.
 
+/// `hiwalgam_format`.
+#[rustfmt::skip]
+pub fn format(
+    device: &mut [u8],
+    geometry: &Record,
+    count: usize,
+    keys: &[u8],
+    tape: &mut Tape,
+) -> Answer {
+    let mut position = Guarded::new(&[tape.position]);
+    // SAFETY: each pointer goes with a length for which it is valid.
+    let number = unsafe {
+        sys::hiwalgam_format(
+            start_mut(device), device.len(),
+            geometry.start(), geometry.size,
+            count, start(keys), keys.len(),
+            start(tape.bytes), tape.bytes.len(), start_mut(&mut position),
+        )
+    };
+    assert!(position.is_intact(), "the guards of the position");
+    tape.position = position[0];
+    answer(number)
+}
+
 /// `hiwalgam_open`.
 #[rustfmt::skip]
 pub fn open(
@@ -253,6 +277,23 @@ pub fn close(
 }
 
 impl Engine for CFunctions {
+    fn format(
+        &self,
+        device: &mut [u8],
+        numbers: [usize; 3],
+        count: usize,
+        keys: &[u8],
+        tape: &mut Tape,
+    ) -> Answer {
+        let geometry = Record::geometry(numbers);
+        let answer = format(device, &geometry, count, keys, tape);
+        assert!(
+            geometry == Record::geometry(numbers),
+            "the geometry of a formatting"
+        );
+        answer
+    }
+
     fn open(
         &self,
         device: &[u8],

@@ -2,7 +2,7 @@
 
 use hiwalgam::Refusal;
 use hiwalgam_reference::session::{self, Refused, Stored};
-use hiwalgam_reference::{aes, ctr, gcm, opening, refusal, requests};
+use hiwalgam_reference::{aes, ctr, formatting, gcm, opening, refusal, requests};
 
 use crate::interface::{Answer, Ciphers, Engine, Session, Tables, Tape, Target, Written, SERVED};
 
@@ -95,6 +95,20 @@ impl Ciphers for Reference {
 }
 
 impl Engine for Reference {
+    fn format(
+        &self,
+        device: &mut [u8],
+        numbers: [usize; 3],
+        count: usize,
+        keys: &[u8],
+        tape: &mut Tape,
+    ) -> Answer {
+        let answer = with_tape(tape, |tape| {
+            formatting::format(device, numbers, count, keys, tape)
+        });
+        answer.map_err(same)
+    }
+
     fn open(
         &self,
         device: &[u8],

@@ -117,6 +117,20 @@ impl Ciphers for Wrapper {
 }
 
 impl Engine for Wrapper {
+    fn format(
+        &self,
+        device: &mut [u8],
+        numbers: [usize; 3],
+        count: usize,
+        keys: &[u8],
+        tape: &mut Tape,
+    ) -> Answer {
+        let geometry = geometry_of(numbers);
+        with_tape(tape, |tape| {
+            hiwalgam::format(device, geometry, count, keys, tape)
+        })
+    }
+
     fn open(
         &self,
         device: &[u8],
