@@ -15,7 +15,7 @@ pub const TAG: usize = 16;
 const R: u128 = 0xe1 << 120;
 
 /// The product of two blocks (section 6.3), bit by bit.
-fn multiply(x: u128, y: u128) -> u128 {
+pub fn multiply(x: u128, y: u128) -> u128 {
     let mut z = 0;
     let mut v = y;
     for i in (0..128).rev() {

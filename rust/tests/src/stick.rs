@@ -4,7 +4,8 @@ use std::collections::HashMap;
 
 use hiwalgam_reference::aes::KEY;
 use hiwalgam_reference::geometry::{Geometry, IV};
-use hiwalgam_reference::{ctr, gcm};
+use hiwalgam_reference::session::Tape;
+use hiwalgam_reference::{ctr, formatting, gcm};
 
 use crate::inputs::Random;
 use crate::interface::{Target, UNMAPPED, VOLUMES};
@@ -45,7 +46,45 @@ impl Volume {
     }
 }
 
+/// The tape bytes that a formatting takes: the device's, and for each volume VMK and VEK, the IVs of
+/// cell and header, and those of the map blocks.
+pub fn format_need(geometry: Geometry, count: usize) -> usize {
+    geometry.device_len() + count * (32 + 32 + 12 + 12 + IV * geometry.map_blocks())
+}
+
 impl Stick {
+    /// A blank stick with `count` volumes, formatted by the reference.
+    pub fn blank(random: &mut Random, geometry: Geometry, count: usize) -> Self {
+        let Geometry { b, s, p } = geometry;
+        let (mut device, keys) = (vec![0; geometry.device_len()], random.bytes(KEY * count));
+        let mut tape = vec![0; format_need(geometry, count)];
+        random.fill_ivs(&mut tape);
+        let (bytes, position) = (&tape[..], 0);
+        let lent = &mut Tape { bytes, position };
+        formatting::format(&mut device, [b, s, p], count, &keys, lent).unwrap();
+        Stick::formatted(geometry, &keys, &tape, &device)
+    }
+
+    /// The stick that a formatting with these keys and tape bytes left: VMK and VEK of each volume
+    /// are on the tape, behind as many bytes as the device has.
+    pub fn formatted(geometry: Geometry, keys: &[u8], tape: &[u8], device: &[u8]) -> Self {
+        let ((keys, _), (drawn, _)) = (keys.as_chunks(), tape[device.len()..].as_chunks());
+        let volumes = keys.iter().zip(drawn.chunks_exact(2));
+        let volumes = volumes.map(|(&key, drawn)| Volume {
+            key,
+            vmk: drawn[0],
+            vek: drawn[1],
+            map: vec![UNMAPPED; geometry.p],
+            numbers: [geometry.p as u32, geometry.s as u32],
+        });
+        Stick {
+            geometry,
+            volumes: volumes.collect(),
+            device: device.to_vec(),
+            texts: HashMap::new(),
+        }
+    }
+
     /// A stick with `count` volumes, which map up to `mapped` slices at random, each once.
     pub fn random(random: &mut Random, geometry: Geometry, count: usize, mapped: usize) -> Self {
         let mut volumes: Vec<Volume> = (0..count).map(|_| Volume::new(random, geometry)).collect();
@@ -85,6 +124,11 @@ impl Stick {
             stick.write_texts(random, i);
         }
         stick
+    }
+
+    /// The keys that open the volumes, end to end.
+    pub fn keys(&self) -> Vec<u8> {
+        self.volumes.iter().flat_map(|volume| volume.key).collect()
     }
 
     /// Seals the VMK of volume `i` into its cell under `key`.

@@ -6,7 +6,7 @@ use hiwalgam::Refusal::{BadGeometry, DeviceLength, NotOpen, TapeShort};
 use hiwalgam_tests::adapters::CFunctions;
 use hiwalgam_tests::inputs::{Guarded, Random};
 use hiwalgam_tests::interface::{Engine, Tables, Tape, SERVED, VOLUMES};
-use hiwalgam_tests::stick::Stick;
+use hiwalgam_tests::stick::{format_need, Stick};
 
 use crate::requests::EDGES;
 use crate::state::Call::*;
@@ -38,7 +38,7 @@ fn limits_of_the_geometry() {
         (4, 0, refused),
         (4, 4097, refused),
     ] {
-        let stick = Stick::random(&mut random, geometry(1024, s.min(64), 4), 2, 3);
+        let stick = Stick::blank(&mut random, geometry(1024, s.min(64), 4), 2);
         let mut state = State::new(&mut random, &stick, 1);
         state.numbers = [1024, s, p];
         assert_eq!(run(Open, &mut state), answer, "S {s}, P {p}");
@@ -51,7 +51,7 @@ fn limits_of_the_geometry() {
 #[test]
 fn tape_of_a_close() {
     let mut random = Random::seeded();
-    let stick = stick_a(&mut random, 3);
+    let stick = Stick::blank(&mut random, geometry(1024, 4, 4), 3);
     let mut state = State::new(&mut random, &stick, 1);
     open_and_check(&mut state, &stick, 1);
     for (len, answer) in [(31, Err(TapeShort)), (32, SERVED)] {
@@ -67,6 +67,7 @@ fn any_geometry() {
     let stick = stick_a(&mut random, 2);
     let mut base = State::new(&mut random, &stick, 1);
     open_and_check(&mut base, &stick, 1);
+    base.new_tape(&mut random, format_need(stick.geometry, 2));
     let triples = EDGES.map(|b| EDGES.map(|s| EDGES.map(|p| [b, s, p])));
     for numbers in triples.as_flattened().as_flattened() {
         let [b, s, p] = *numbers;
@@ -79,7 +80,7 @@ fn any_geometry() {
                 _ if [b, s, p] == [1024, 4, 4] => SERVED,
                 Find => SERVED,
                 _ if allowed => Err(DeviceLength),
-                Open => Err(BadGeometry),
+                Format | Open => Err(BadGeometry),
                 _ => Err(NotOpen),
             };
             let answer = run(call, &mut state.clone());
@@ -92,13 +93,13 @@ fn any_geometry() {
 #[test]
 fn length_in_64_bits() {
     let mut random = Random::seeded();
-    let stick = stick_a(&mut random, 1);
+    let stick = Stick::blank(&mut random, geometry(1024, 4, 4), 1);
     let mut state = State::new(&mut random, &stick, 0);
     state.numbers = [4096, 256, 4096];
     state.device = Guarded::new(&vec![0; 4_312_117_248 % (1 << 32)]);
     (state.session.b, state.session.s, state.session.p) = (4096, 256, 4096);
     (state.session.k, state.session.open) = (0, 1);
-    for call in [Read, Write, Close, Open] {
+    for call in [Format, Read, Write, Close, Open] {
         assert_eq!(run(call, &mut state), Err(DeviceLength));
     }
 }
@@ -107,9 +108,11 @@ fn length_in_64_bits() {
 #[test]
 fn stack_of_a_call() {
     let mut random = Random::seeded();
-    let stick = Stick::random(&mut random, geometry(1024, 1, 4096), VOLUMES, 100);
+    let layout = geometry(1024, 1, 4096);
+    let stick = Stick::random(&mut random, layout, VOLUMES, 100);
     let mut state = State::new(&mut random, &stick, VOLUMES - 1);
-    state.new_tape(&mut random, 8192);
+    // The first call formats the stick, and the others take the rest of the tape.
+    state.new_tape(&mut random, format_need(layout, VOLUMES) + 8192);
     let thread = thread::Builder::new().name("calls on 64 KiB of stack".into());
     thread::scope(|scope| {
         let calls = || {
@@ -126,7 +129,7 @@ fn stack_of_a_call() {
 #[test]
 fn tape_and_text_may_overlap() {
     let mut random = Random::seeded();
-    let stick = stick_a(&mut random, 1);
+    let stick = Stick::blank(&mut random, geometry(1024, 4, 4), 1);
     let mut state = State::new(&mut random, &stick, 0);
     open_and_check(&mut state, &stick, 0);
     let mut apart = state.clone();

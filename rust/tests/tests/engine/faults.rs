@@ -6,8 +6,9 @@ use hiwalgam::Refusal::{self, *};
 use hiwalgam_reference::geometry::{Geometry, IV};
 use hiwalgam_tests::inputs::{Guarded, Random};
 use hiwalgam_tests::interface::UNMAPPED;
-use hiwalgam_tests::stick::{Stick, Volume};
+use hiwalgam_tests::stick::{format_need, Stick, Volume};
 
+use crate::formatting::{vmk_of_two_keys, vmk_place};
 use crate::requests::{CLOSED, MAX, WRAPS};
 use crate::state::Call::{self, *};
 use crate::state::{at, geometry, open_and_check, State};
@@ -126,15 +127,60 @@ impl Faults {
         });
     }
 
-    /// 1 to 5 at an opening.
-    fn arguments_of_open(&mut self, base: &State) {
-        let [b, _, p] = base.numbers;
+    /// 1 and 2, with which a formatting and an opening begin.
+    fn geometry(&mut self, base: &State) {
+        let [b, s, _] = base.numbers;
         for (field, numbers) in wrong_numbers(b).iter().enumerate() {
             self.add(BadGeometry, "geometry", numbers, move |state, number| {
                 state.numbers[field] = number;
             });
         }
+        // An allowed geometry, but of another stick.
+        self.add(DeviceLength, "other S", &[s % 2 + 1], |state, s| {
+            state.numbers[1] = s;
+        });
         self.device(base.device.len());
+    }
+
+    /// 23 and 3 at a formatting with 3 keys.
+    fn keys(&mut self, base: &State) {
+        let n = base.count;
+        assert_eq!(n, 3);
+        // The last but one and those above it are n keys of 32 bytes in fewer bits.
+        let counts = [0, 16, n + (1 << 32), n + (1 << 59), 1 << 63, MAX];
+        self.add(KeyCount, "count", &counts, |state, count| {
+            state.count = count;
+        });
+        let lengths = [0, 1, 32, 32 * n - 1, 32 * n + 1, 32 * (n + 2)];
+        self.add(KeyLength, "keys", &lengths, |state, len| {
+            state.keys = state.keys.resized(len);
+        });
+        let counts = [n - 1, n + 1, 15];
+        self.add(KeyLength, "other count", &counts, |state, count| {
+            state.count = count;
+        });
+    }
+
+    /// 24: of each two keys the higher is that of the lower volume, or opens its cell although it is
+    /// another.
+    fn lower_cells(&mut self, base: &State) {
+        for (i, j) in [(1, 0), (2, 0), (2, 1)] {
+            let lower = base.keys[32 * j..32 * (j + 1)].to_vec();
+            self.add(LowerCell, "same key", &[32 * i], move |state, start| {
+                put(&mut state.keys, start, &lower);
+            });
+            let vmk = vmk_of_two_keys(base, j, i);
+            let place = vmk_place(base, j).start;
+            self.add(LowerCell, "two keys", &[place], move |state, place| {
+                put(&mut state.tape, place, &vmk);
+            });
+        }
+    }
+
+    /// 1 to 5 at an opening.
+    fn arguments_of_open(&mut self, base: &State) {
+        let p = base.numbers[2];
+        self.geometry(base);
         self.add(KeyLength, "key", &[0, 31, 33, 64], |state, len| {
             state.key = state.key.resized(len);
         });
@@ -177,11 +223,7 @@ impl Faults {
                 HeaderGeometry,
                 "numbers in header",
                 &[i],
-                move |state, _| {
-                    for (j, &byte) in header.iter().enumerate() {
-                        set(&mut state.device, start + j, byte);
-                    }
-                },
+                move |state, _| put(&mut state.device, start, &header),
             );
         }
     }
@@ -206,6 +248,15 @@ impl Faults {
                 }
             });
         }
+    }
+
+    fn of_format(base: &State, layout: Geometry) -> Self {
+        let mut faults = Faults::default();
+        faults.geometry(base);
+        faults.keys(base);
+        faults.tape(base, format_need(layout, base.count));
+        faults.lower_cells(base);
+        faults
     }
 
     fn of_open(random: &mut Random, stick: &Stick, base: &State) -> Self {
@@ -300,6 +351,13 @@ fn set<T>(elements: &mut [T], index: usize, value: T) {
     }
 }
 
+/// Sets elements from `start` on, where there are any.
+fn put<T: Copy>(elements: &mut [T], start: usize, values: &[T]) {
+    for (i, &value) in values.iter().enumerate() {
+        set(elements, start + i, value);
+    }
+}
+
 /// Values of B, S and P that are not allowed.
 fn wrong_numbers(b: usize) -> [Vec<usize>; 3] {
     [
@@ -340,6 +398,13 @@ pub fn held_first(p: usize) -> Guarded<u32> {
 pub fn with_faults(call: Call, mut test: impl FnMut(&mut Random, &State, &Faults)) {
     with_sticks(|random, stick, mut base| {
         let Geometry { s, p, .. } = stick.geometry;
+        if call == Format {
+            // Some bytes of the tape are used, and some are left over.
+            base.new_tape(random, format_need(stick.geometry, base.count) + 24);
+            base.position = 17;
+            let faults = Faults::of_format(&base, stick.geometry);
+            return test(random, &base, &faults);
+        }
         if call == Open {
             let faults = Faults::of_open(random, stick, &base);
             return test(random, &base, &faults);

@@ -6,6 +6,7 @@
 mod cases;
 mod faults;
 mod finding;
+mod formatting;
 mod opening;
 mod records;
 mod refusals;

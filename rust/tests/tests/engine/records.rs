@@ -42,6 +42,10 @@ impl Records {
         let (tables, tape) = (&mut tables, &mut tape);
         let (order, target, buf) = (&state.permutation, state.target, &mut state.buf);
         let answer = match call {
+            Format => {
+                let (count, keys) = (state.count, &state.keys);
+                c_functions::format(device, &self.geometry, count, keys, tape)
+            }
             Open => c_functions::open(device, &self.geometry, &state.key, tables, order, session),
             Read => c_functions::read(device, tables, session, target, buf),
             Find => {
@@ -66,8 +70,10 @@ type Field = fn(&mut Records) -> &mut Record;
 /// The structs that a call has.
 fn fields(call: Call) -> Vec<Field> {
     let session: Field = |records| &mut records.session;
+    let geometry: Field = |records| &mut records.geometry;
     match call {
-        Open => vec![session, |records| &mut records.geometry],
+        Format => vec![geometry],
+        Open => vec![session, geometry],
         Write => vec![session, |records| &mut records.written],
         Read | Find | Close => vec![session],
     }
@@ -163,7 +169,7 @@ fn check_session(call: Call, state: &mut State) -> Answer {
         (Open, Ok(())) => opened_at_1(state.numbers, &records.session),
         // Geometry and volume stay.
         (Close, Ok(())) => Record::new(&[&before.bytes()[..32], &[0; SESSION_BYTES - 32]].concat()),
-        (Read | Find | Write | Close, _) => before,
+        (Format | Read | Find | Write | Close, _) => before,
     };
     assert!(
         records.session == left,

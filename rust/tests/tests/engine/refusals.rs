@@ -36,6 +36,11 @@ fn refuses(call: Call) {
 }
 
 #[test]
+fn refusals_of_format() {
+    refuses(Format);
+}
+
+#[test]
 fn refusals_of_open() {
     refuses(Open);
 }

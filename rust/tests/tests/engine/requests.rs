@@ -1,7 +1,9 @@
 //! Requests from the generator.
 
+use hiwalgam_reference::geometry::Geometry;
 use hiwalgam_tests::inputs::{Guarded, Random};
-use hiwalgam_tests::interface::{Session, KEYS, UNMAPPED};
+use hiwalgam_tests::interface::{Session, KEYS, UNMAPPED, VOLUMES};
+use hiwalgam_tests::stick::format_need;
 
 use crate::state::Call::{self, *};
 use crate::state::{at, State};
@@ -72,7 +74,7 @@ fn permutation(random: &mut Random, p: usize) -> Guarded<u32> {
 pub fn spoil(random: &mut Random, state: &mut State) {
     let edge = random.pick(&EDGES);
     let near = |random: &mut Random, len: usize| random.pick(&[0, len / 2, len + 1, 2 * len]);
-    match random.below(21) {
+    match random.below(26) {
         0 => state.session.b = edge,
         1 => state.session.s = edge,
         2 => state.session.p = edge,
@@ -96,6 +98,20 @@ pub fn spoil(random: &mut Random, state: &mut State) {
             for _ in 0..4 {
                 let entry = random.below(state.maps.len());
                 state.maps[entry] = random.pick(&[0, 1, 4, 300, 4096, 1 << 31, UNMAPPED - 1]);
+            }
+        }
+        20 => state.count = random.pick(&[edge, state.count + 1, 15, 16]),
+        21 => state.keys = state.keys.resized(near(random, state.keys.len())),
+        22 if state.keys.len() >= 64 => state.keys.copy_within(..32, 32),
+        23 => {
+            // A tape for a formatting, or one that is a byte too short for it.
+            let [b, s, p] = state.numbers;
+            let geometry = Geometry::new(b, s, p);
+            let len = state.device.len();
+            if let Some(geometry) = geometry.filter(|geometry| geometry.device_len() == len) {
+                let need = format_need(geometry, state.count.min(VOLUMES));
+                let short = random.below(2);
+                state.new_tape(random, need - short);
             }
         }
         _ => {

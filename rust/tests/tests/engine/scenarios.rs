@@ -59,7 +59,7 @@ impl Model {
     }
 
     /// Follows a call that was served.
-    fn served(&mut self, call: Call, state: &State, answer: Written) {
+    pub fn served(&mut self, call: Call, state: &State, answer: Written) {
         let Session { b, s, .. } = state.session;
         let place = (state.target.volume, state.target.address / s);
         let held = self.slices.get(&place);
@@ -76,7 +76,7 @@ impl Model {
             }
             Write => assert_eq!(held, Some(&answer.slice), "rewritten"),
             Close => self.claims.clear(),
-            Open | Find => {}
+            Format | Open | Find => {}
         }
         if call == Write {
             self.texts.insert(state.target, state.text.to_vec());

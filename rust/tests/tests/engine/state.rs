@@ -13,6 +13,7 @@ use hiwalgam_tests::stick::Stick;
 
 #[derive(Clone, Copy, PartialEq, Debug)]
 pub enum Call {
+    Format,
     Open,
     Read,
     Find,
@@ -21,7 +22,7 @@ pub enum Call {
 }
 use Call::*;
 
-pub const CALLS: [Call; 5] = [Open, Read, Find, Write, Close];
+pub const CALLS: [Call; 6] = [Format, Open, Read, Find, Write, Close];
 
 pub const ENGINES: [&dyn Engine; 3] = [&CFunctions, &Wrapper, &Reference];
 
@@ -34,8 +35,11 @@ pub struct State {
     pub session: Session,
     pub tape: Guarded,
     pub position: usize,
-    /// B, S and P for an opening.
+    /// B, S and P for a formatting and an opening.
     pub numbers: [usize; 3],
+    /// The keys for a formatting, end to end, and their number.
+    pub keys: Guarded,
+    pub count: usize,
     pub key: Guarded,
     pub permutation: Guarded<u32>,
     pub target: Target,
@@ -46,8 +50,8 @@ pub struct State {
 }
 
 impl State {
-    /// Arguments that open a stick with the key of volume `k`. The tables and the session hold
-    /// anything.
+    /// Arguments that open a stick with the key of volume `k`, or format it anew with the keys of all
+    /// its volumes, where the tape is long enough. The tables and the session hold anything.
     pub fn new(random: &mut Random, stick: &Stick, k: usize) -> Self {
         let Geometry { b, s, p } = stick.geometry;
         let garbage: Vec<u32> = (0..VOLUMES * p).map(|_| random.word() as u32).collect();
@@ -59,6 +63,8 @@ impl State {
             tape: Guarded::blank(0),
             position: 0,
             numbers: [b, s, p],
+            keys: Guarded::new(&stick.keys()),
+            count: stick.volumes.len(),
             key: Guarded::new(&stick.volumes[k].key),
             permutation: Guarded::new(&random.permutation(p)),
             target: at(0, 0),
@@ -105,6 +111,10 @@ impl State {
         let (tables, tape) = (&mut tables, &mut tape);
         let (order, target) = (&self.permutation, self.target);
         let written = match call {
+            Format => {
+                let (numbers, count, keys) = (self.numbers, self.count, &self.keys);
+                Written::of(engine.format(device, numbers, count, keys, tape))
+            }
             Open => {
                 let (numbers, key) = (self.numbers, &self.key);
                 Written::of(engine.open(device, numbers, key, tables, order, session))
@@ -186,7 +196,7 @@ pub fn run(call: Call, state: &mut State) -> Answer {
     run_places(call, state).0.answer
 }
 
-/// What a call with this answer leaves of `state`: by the rules, and only for ciphertexts, read
+/// What a call with this answer leaves of `state`: by the rules, and only for ciphertexts, tags, read
 /// texts and a served opening from `after`. Also the places of the device that it writes.
 fn effect(
     mut state: State,
@@ -195,6 +205,7 @@ fn effect(
     after: &State,
 ) -> (State, Vec<Range<usize>>) {
     let places = match (call, answer.answer) {
+        (Format, Ok(())) => after_format(&mut state, after),
         (Open, Ok(())) => after_opening(&mut state, after),
         (Open, Err(refusal)) => after_refused_opening(&mut state, refusal),
         (Read, Ok(())) => {
@@ -204,12 +215,43 @@ fn effect(
         (Find, _) => after_find(&mut state, after.found),
         (Write, Ok(())) => after_write(&mut state, answer, after),
         (Close, Ok(())) => after_close(&mut state, after),
-        (Read | Write | Close, Err(_)) => Vec::new(),
+        (Format | Read | Write | Close, Err(_)) => Vec::new(),
     };
     for place in &places {
         state.device[place.clone()].copy_from_slice(&after.device[place.clone()]);
     }
     (state, places)
+}
+
+/// The device is of tape bytes but for what is sealed, and each IV is the next of the tape. Returns
+/// the whole device.
+fn after_format(state: &mut State, after: &State) -> Vec<Range<usize>> {
+    let [b, s, p] = state.numbers;
+    let geometry = geometry(b, s, p);
+    let mut draw = |len: usize| {
+        state.position += len;
+        state.position - len..state.position
+    };
+    let mut device = state.tape[draw(state.device.len())].to_vec();
+    // VMK and VEK of each volume.
+    draw(64 * state.count);
+    let mut put = |start: usize, iv: usize, sealed: usize| {
+        let end = start + iv;
+        device[start..end].copy_from_slice(&state.tape[draw(iv)]);
+        device[end..end + sealed].copy_from_slice(&after.device[end..end + sealed]);
+    };
+    for i in 0..state.count {
+        put(geometry.cell(i).start, 12, 32 + 16);
+    }
+    for i in 0..state.count {
+        put(geometry.header(i).start, 12, 72 + 16);
+        for map in geometry.maps(i).step_by(b) {
+            put(map, IV, b - IV);
+        }
+    }
+    assert!(after.device[..] == device, "tape bytes on the device");
+    let whole = 0..device.len();
+    vec![whole]
 }
 
 fn after_opening(state: &mut State, after: &State) -> Vec<Range<usize>> {
