@@ -4,6 +4,8 @@
 use std::error::Error;
 
 use hiwalgam::{sys, Block, Geometry, Refusal, Session, Tables, Tape, WriteRefused};
+use hiwalgam_reference::geometry::Geometry as Layout;
+use hiwalgam_tests::stick::format_need;
 
 const GEOMETRY: Geometry = Geometry {
     block_bytes: 1024,
@@ -82,8 +84,7 @@ fn tables_for_any_geometry() {
         let geometry = Geometry { slices, ..GEOMETRY };
         let mut tables = Tables::new(geometry);
         assert_eq!(tables.maps.len(), 15 * tables.owners.len());
-        let blocks = 1 + 15 * (1 + slices.min(4096).div_ceil(252)) + slices.min(4096) * 5;
-        let device = vec![0; 1024 * blocks as usize];
+        let device = vec![0; geometry.device_length()];
         let permutation: Vec<u32> = (0..slices.min(4096) as u32).collect();
         let opened = Session::open(&device, geometry, &[0; 32], &mut tables, &permutation);
         let refusal = match slices {
@@ -91,6 +92,34 @@ fn tables_for_any_geometry() {
             _ => Refusal::BadGeometry,
         };
         assert_eq!(opened, Err(refusal), "P {slices}");
+    }
+}
+
+/// The lengths of device and tape are the reference's, and 0 where that allows no geometry.
+#[test]
+fn lengths_for_any_geometry() {
+    let numbers = [
+        vec![0, 1, 15, 16, 19, 1023, 1024, 1025, 4096, 1 << 32, u64::MAX],
+        vec![0, 1, 3, 63, 64, 65, 255, 256, 257, 1 << 32, u64::MAX],
+        vec![0, 1, 252, 253, 1020, 1021, 4096, 4097, 1 << 32, u64::MAX],
+    ];
+    for &b in &numbers[0] {
+        for &s in &numbers[1] {
+            for &p in &numbers[2] {
+                let geometry = Geometry {
+                    block_bytes: b,
+                    slice_blocks: s,
+                    slices: p,
+                };
+                let layout = Layout::new(b as usize, s as usize, p as usize);
+                let length = layout.map_or(0, Layout::device_len);
+                assert_eq!(geometry.device_length(), length, "{geometry:?}");
+                for count in [0, 1, 2, 15, 16, usize::MAX] {
+                    let need = layout.map_or(0, |layout| format_need(layout, count.min(15)));
+                    assert_eq!(geometry.format_tape_length(count), need, "{geometry:?}");
+                }
+            }
+        }
     }
 }
 
