@@ -1,16 +1,17 @@
-//! The speed of the proved engine beside that of the reference, and of its reads and rewrites beside
-//! its own counter mode alone. Nothing here asserts a time.
+//! The speed of the proved engine beside that of the reference, of its reads and rewrites beside its
+//! own counter mode alone, and of its formatting beside a plain copy. Nothing here asserts a time.
 //!
 //! Each implementation is called in its own form, without the tests' interface, whose adapters copy
 //! the session.
 
 use std::hint::black_box;
+use std::rc::Rc;
 use std::time::Instant;
 
 use hiwalgam::{Block, Tables, Tape};
 use hiwalgam_reference::geometry::Geometry;
 use hiwalgam_reference::session::{self, Stored};
-use hiwalgam_reference::{opening, requests};
+use hiwalgam_reference::{formatting, opening, requests};
 use hiwalgam_tests::inputs::Random;
 use hiwalgam_tests::interface::{Target, UNMAPPED, VOLUMES};
 use hiwalgam_tests::stick::Stick;
@@ -164,6 +165,11 @@ fn reference_tables(tables: &mut Tables) -> session::Tables<'_> {
     }
 }
 
+fn reference_numbers(geometry: hiwalgam::Geometry) -> [usize; 3] {
+    let numbers = [geometry.block_bytes, geometry.slice_blocks, geometry.slices];
+    numbers.map(|number| number as usize)
+}
+
 fn reference_tape(bytes: &[u8]) -> session::Tape<'_> {
     session::Tape { bytes, position: 0 }
 }
@@ -176,8 +182,7 @@ fn reference_target(target: Target) -> session::Target {
 impl Session for Reference {
     fn opened(bench: &mut Bench) -> Self {
         let (device, geometry, order) = (&bench.device, bench.geometry, &bench.permutation);
-        let numbers = [geometry.block_bytes, geometry.slice_blocks, geometry.slices];
-        let numbers = numbers.map(|number| number as usize);
+        let numbers = reference_numbers(geometry);
         let tables = &mut reference_tables(&mut bench.tables);
         let session = opening::open(device, numbers, &bench.key, tables, order).unwrap();
         assert_eq!(session.k, VOLUMES - 1);
@@ -213,6 +218,56 @@ impl Session for Reference {
         let tables = &mut reference_tables(&mut bench.tables);
         let tape = &mut reference_tape(&bench.tape);
         requests::close(&mut bench.device, tables, tape, &mut session).unwrap();
+    }
+}
+
+/// What is lent to a formatting: a device of 64 MiB, and 15 keys.
+#[derive(Clone)]
+struct Blank {
+    geometry: hiwalgam::Geometry,
+    device: Vec<u8>,
+    keys: Vec<u8>,
+    tape: Rc<[u8]>,
+}
+
+impl Blank {
+    fn new(random: &mut Random) -> Self {
+        // 31 blocks before the first slice, and 256 slices of 64 blocks.
+        let geometry = hiwalgam::Geometry {
+            block_bytes: B as u64,
+            slice_blocks: 63,
+            slices: 256,
+        };
+        let tape = random.bytes(geometry.format_tape_length(VOLUMES));
+        Blank {
+            geometry,
+            device: vec![0; geometry.device_length()],
+            keys: random.bytes(32 * VOLUMES).to_vec(),
+            tape: Rc::from(&tape[..]),
+        }
+    }
+
+    fn format(&mut self) {
+        let (device, tape) = (&mut self.device, &mut Tape::new(&self.tape));
+        hiwalgam::format(device, self.geometry, VOLUMES, &self.keys, tape).unwrap();
+    }
+
+    fn format_by_reference(&mut self) {
+        let (device, tape) = (&mut self.device, &mut reference_tape(&self.tape));
+        let numbers = reference_numbers(self.geometry);
+        formatting::format(device, numbers, VOLUMES, &self.keys, tape).unwrap();
+    }
+
+    /// Copies as many bytes as the device has.
+    fn copy(&mut self) {
+        let len = self.device.len();
+        self.device.copy_from_slice(&self.tape[..len]);
+    }
+
+    /// A call on a device of its own.
+    fn measured(&self, name: &'static str, call: fn(&mut Blank)) -> Measured {
+        let mut blank = self.clone();
+        Measured::new(name, move || call(black_box(&mut blank)))
     }
 }
 
@@ -313,7 +368,22 @@ fn main() {
         counter_mode.turn();
     }
 
+    // In rounds of its own, since a formatting leaves nothing else in the caches.
+    let blank = Blank::new(&mut random);
+    library.push(blank.measured("format, 64 MiB", Blank::format));
+    reference.push(blank.measured("format, 64 MiB", Blank::format_by_reference));
+    let mut copy = blank.measured("copy", Blank::copy);
+    for _ in 0..ROUNDS {
+        for measured in [&mut library[7], &mut reference[7], &mut copy] {
+            measured.turn();
+        }
+    }
+
     println!("B {B}, 15 volumes open, half of the slices mapped; medians of {ROUNDS} rounds.");
+    println!(
+        "A formatting is of {} bytes with 15 keys.",
+        blank.device.len()
+    );
     println!("Times of one call in microseconds; ratios are of times in the same round.\n");
     println!("call              library    reference  library/reference");
     for (library, reference) in library.iter().zip(&reference) {
@@ -326,6 +396,7 @@ fn main() {
     for (name, ratio) in [
         ("read / counter mode", library[0].ratio(&counter_mode)),
         ("rewrite / counter mode", library[1].ratio(&counter_mode)),
+        ("format / copy of as many bytes", library[7].ratio(&copy)),
         (
             "open P 4096 / P 256, library",
             library[6].ratio(&library[5]),
