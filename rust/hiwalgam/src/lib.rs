@@ -8,7 +8,7 @@
 //! first [`Refusal`] that applies; the wrapper adds no test of its own. Everything is lent: no call
 //! keeps anything between two calls.
 //!
-//! [`format`] makes a device, [`Session::open`] opens it with a key, and the session reads, writes and
+//! [`format()`] makes a device, [`Session::open`] opens it with a key, and the session reads, writes and
 //! closes. Reading the image from a stick and storing it there is the caller's work.
 //!
 //! ```

@@ -20,7 +20,7 @@ impl Geometry {
         length.unwrap_or(0) as usize
     }
 
-    /// The bytes of the tape that [`format`](crate::format) takes with `count` keys: the device's,
+    /// The bytes of the tape that [`format`](crate::format()) takes with `count` keys: the device's,
     /// and 88 + 16 x m for each key; 0 where B, S or P is not allowed.
     pub fn format_tape_length(self, count: usize) -> usize {
         // More keys are refused before the tape is looked at.

@@ -109,14 +109,14 @@ fn length_in_64_bits() {
 fn stack_of_a_call() {
     let mut random = Random::seeded();
     let layout = geometry(1024, 1, 4096);
-    let stick = Stick::random(&mut random, layout, VOLUMES, 100);
+    let stick = Stick::blank(&mut random, layout, VOLUMES);
     let mut state = State::new(&mut random, &stick, VOLUMES - 1);
-    // The first call formats the stick, and the others take the rest of the tape.
+    // The first call formats anew, and the others take the rest of the tape.
     state.new_tape(&mut random, format_need(layout, VOLUMES) + 8192);
     let thread = thread::Builder::new().name("calls on 64 KiB of stack".into());
     thread::scope(|scope| {
         let calls = || {
-            for call in CALLS {
+            for call in [Format, Open, Read, Write, Write, Read, Find, Close] {
                 assert_eq!(state.call(call, &CFunctions).answer, SERVED, "{call:?}");
             }
         };

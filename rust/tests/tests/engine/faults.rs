@@ -146,7 +146,7 @@ impl Faults {
     fn keys(&mut self, base: &State) {
         let n = base.count;
         assert_eq!(n, 3);
-        // The last but one and those above it are n keys of 32 bytes in fewer bits.
+        // The third is n in 32 bits, and 32 times the fourth is 32 n in 64 bits.
         let counts = [0, 16, n + (1 << 32), n + (1 << 59), 1 << 63, MAX];
         self.add(KeyCount, "count", &counts, |state, count| {
             state.count = count;

@@ -4,7 +4,7 @@
 use std::collections::{BTreeSet, HashMap};
 use std::ops::Range;
 
-use hiwalgam::Refusal::{HeaderTag, LowerCell, TapeShort};
+use hiwalgam::Refusal::{HeaderTag, KeyCount, LowerCell, TapeShort};
 use hiwalgam_reference::aes::RoundKeys;
 use hiwalgam_reference::geometry::{Geometry, IV};
 use hiwalgam_reference::{ctr, gcm};
@@ -48,19 +48,13 @@ fn arguments(random: &mut Random, layout: Geometry, count: usize, used: usize) -
     state
 }
 
-/// The stick that a formatting of `before` has made of it.
-fn made(before: &State, after: &State) -> Stick {
-    let [b, s, p] = before.numbers;
-    let tape = &before.tape[before.position..];
-    Stick::formatted(geometry(b, s, p), &before.keys, tape, &after.device)
-}
-
 /// Formats, which must be served and use the whole tape, and tests what is sealed.
 fn format(state: &mut State) -> Stick {
-    let before = state.clone();
+    let ([b, s, p], start) = (state.numbers, state.position);
     assert_eq!(run(Format, state), SERVED);
     assert_eq!(state.position, state.tape.len());
-    let stick = made(&before, state);
+    let tape = &state.tape[start..];
+    let stick = Stick::formatted(geometry(b, s, p), &state.keys, tape, &state.device);
     for i in 0..state.count {
         check_sealed(&stick, i);
     }
@@ -154,6 +148,30 @@ fn devices_of_larger_geometries() {
         check_device(&mut random, geometry(b, s, p), VOLUMES);
     }
     check_device(&mut random, geometry(4096, 1, 4096), 2);
+}
+
+/// As many keys as counted, and counts whose keys take no byte more in 64 bits.
+#[test]
+fn counts_of_keys() {
+    let mut random = Random::seeded();
+    let layout = geometry(1024, 4, 4);
+    for keys in 0..=17 {
+        for count in [keys, keys + (1 << 59), keys + (1 << 63)] {
+            let mut state = arguments(&mut random, layout, 15, 0);
+            state.new_tape(&mut random, format_need(layout, 17));
+            state.keys = random.bytes(32 * keys);
+            state.count = count;
+            let answer = match count {
+                1..=15 => SERVED,
+                _ => Err(KeyCount),
+            };
+            assert_eq!(
+                run(Format, &mut state),
+                answer,
+                "{keys} keys, count {count}"
+            );
+        }
+    }
 }
 
 #[test]

@@ -104,7 +104,10 @@ impl Model {
 fn random_stick(random: &mut Random, geometry: Geometry) -> (Stick, usize) {
     let count = 1 + random.below(VOLUMES);
     let mapped = random.below(geometry.p + 1).min(100);
-    let mut stick = Stick::random(random, geometry, count, mapped);
+    let mut stick = match mapped {
+        0 => Stick::blank(random, geometry, count),
+        _ => Stick::random(random, geometry, count, mapped),
+    };
     let k = random.below(count);
     let key = stick.volumes[k].key;
     // The same key for a cell above must not matter.
