@@ -8,8 +8,9 @@ use hiwalgam::Refusal::{HeaderTag, KeyCount, LowerCell, TapeShort};
 use hiwalgam_reference::aes::RoundKeys;
 use hiwalgam_reference::geometry::{Geometry, IV};
 use hiwalgam_reference::{ctr, gcm};
+use hiwalgam_tests::adapters::CFunctions;
 use hiwalgam_tests::inputs::{Guarded, Random};
-use hiwalgam_tests::interface::{Written, SERVED, VOLUMES};
+use hiwalgam_tests::interface::{Engine, Tape, Written, SERVED, VOLUMES};
 use hiwalgam_tests::stick::{format_need, Stick, Volume};
 
 use crate::requests::spoil;
@@ -191,6 +192,25 @@ fn old_bytes_have_no_influence() {
             assert!(other.device[..] == stick.device, "device");
         }
     }
+}
+
+/// What a call only reads may be the same memory: here the keys are bytes of the tape.
+#[test]
+fn keys_and_tape_may_overlap() {
+    let mut random = Random::seeded();
+    let mut apart = arguments(&mut random, geometry(1024, 4, 4), 2, 0);
+    apart.keys = Guarded::new(&apart.tape[100..164]);
+    let mut device = apart.device.clone();
+    format(&mut apart);
+
+    let mut tape = Tape {
+        bytes: &apart.tape,
+        position: 0,
+    };
+    let (numbers, keys) = (apart.numbers, &tape.bytes[100..164]);
+    let together = CFunctions.format(&mut device, numbers, 2, keys, &mut tape);
+    assert_eq!((together, tape.position), (SERVED, apart.position));
+    assert!(device == apart.device, "device");
 }
 
 // ---- sessions afterwards
