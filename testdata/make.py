@@ -91,6 +91,51 @@ def unseal(key, sealed, associated):
         return None
 
 
+def product(x, y):
+    """In GCM's field: bit 0 of a block is its first, x^128 is 1 + x + x^2 + x^7."""
+    z = 0
+    for bit in range(127, -1, -1):
+        if x >> bit & 1:
+            z ^= y
+        y = y >> 1 ^ (0xE1 << 120 if y & 1 else 0)
+    return z
+
+
+def power(x, exponent):
+    z = 1 << 127  # the field's one
+    while exponent:
+        if exponent & 1:
+            z = product(z, x)
+        x, exponent = product(x, x), exponent >> 1
+    return z
+
+
+def text_for_two(key, other, iv, associated, first):
+    """A text of 32 bytes, with its 16 first given, whose sealing under `key` opens under `other` too.
+
+    GCM does not bind a sealing to its key. With A the associated data, C and D the ciphertext, L the lengths and H and M
+    a key's hash key and mask, the tag is A H^4 + C H^3 + D H^2 + L H + M. The two tags are equal for one D.
+    """
+    whole = 0
+    squares = 0
+    streams = []
+    for each in (key, other):
+        encrypt = Cipher(algorithms.AES(each), modes.ECB()).encryptor().update
+        streams.append([int.from_bytes(encrypt(iv + n.to_bytes(4, "big")), "big") for n in (1, 2, 3)])
+        H = int.from_bytes(encrypt(bytes(16)), "big")
+        C = int.from_bytes(first, "big") ^ streams[0][1]
+        A = int.from_bytes(associated.ljust(16, b"\0"), "big")
+        L = 8 * len(associated) << 64 | 8 * 32
+        for part, degree in ((A, 4), (C, 3), (L, 1)):
+            whole ^= product(part, power(H, degree))
+        whole ^= streams[-1][0]
+        squares ^= power(H, 2)
+    D = product(whole, power(squares, 2**128 - 2))
+    text = first + (D ^ streams[0][2]).to_bytes(16, "big")
+    assert unseal(other, seal(key, iv, text, associated), associated) not in (None, text)
+    return text
+
+
 # --------------------------------------------------------------------------------------------------------------- layout
 
 
@@ -260,13 +305,14 @@ class Lent:
         self.owners = []
         self.permutation = []
         self.tape = b""
+        self.tape_place = ("", 0)  # where the tape stands: a file and an offset in it
         self.position = 0
         self.session = NO_SESSION
-        self.stored = []  # the places written by the call, for the transcript
+        self.stored = []  # the places written by the call, for the transcript: byte, data, and where these stand or None
 
-    def store(self, at, data):
+    def store(self, at, data, where=None):
         put(self.device, at, data)
-        self.stored.append((at, bytes(data)))
+        self.stored.append((at, bytes(data), where))
 
     def draw(self, count, probes=0):
         """The next tape bytes, each used once. 21 where fewer are left, or the position is past the end."""
@@ -275,6 +321,54 @@ class Lent:
         data = self.tape[self.position : self.position + count]
         self.position += count
         return data
+
+
+def format_device(lent, count, keys):
+    """Makes a blank device with a volume for each key. The keys stand end to end."""
+    g = lent.geometry
+    if not g.allowed():
+        raise Refused(1)
+    if len(lent.device) != g.length:
+        raise Refused(2)
+    if not 1 <= count <= VOLUMES:
+        raise Refused(23)
+    if len(keys) != 32 * count:
+        raise Refused(3)
+    key = [keys[32 * i : 32 * i + 32] for i in range(count)]
+
+    # Everything is drawn and sealed beside the device. A refusal gives back what was drawn.
+    start = lent.position
+    try:
+        fill = lent.draw(g.length)
+        vmk, vek = [], []
+        for _ in range(count):
+            vmk.append(lent.draw(32))
+            vek.append(lent.draw(32))
+        cells = [seal(key[i], lent.draw(12), vmk[i], bytes([i])) for i in range(count)]
+        headers = []
+        for i in range(count):
+            below = vmk[i - 1] if i > 0 else bytes(32)
+            header = seal(vmk[i], lent.draw(12), vek[i] + below + number(g.P) + number(g.S), bytes([16 + i]))
+            maps = []
+            for _ in range(g.m):
+                iv = lent.draw(16)
+                maps.append(iv + counter_mode(vek[i], iv, number(MARK) * g.entries))
+            headers.append((header, maps))
+        if any(unseal(key[i], cells[j], bytes([j])) is not None for i in range(count) for j in range(i)):
+            raise Refused(24)
+    except Refused:
+        lent.position = start
+        raise
+    assert lent.position - start == g.length + count * (88 + 16 * g.m)
+
+    file, offset = lent.tape_place
+    lent.store(0, fill, f"{file} {offset + start}")
+    for i in range(count):
+        lent.store(g.cell(i), cells[i])
+    for i, (header, maps) in enumerate(headers):
+        lent.store(g.header(i), header)
+        for n in range(g.m):
+            lent.store(g.map_block(i, n), maps[n])
 
 
 def open_device(lent, key):
@@ -502,7 +596,7 @@ def apply(lent, line):
         if kind == "device":
             lent.device = bytearray(data)
         elif kind == "tape":
-            lent.tape = data
+            lent.tape, lent.tape_place = data, (file, start)
         else:
             put(lent.device, numbers[0], data)
         return
@@ -541,7 +635,7 @@ class Transcript:
         self.name = name
         self.lines = [f"# {line}" for line in about]
         self.lent = Lent()
-        self.after = None  # the image that the device ends as
+        self.images = []  # those that the device became
 
     def say(self, *about):
         self.lines += [""] + [f"# {line}" for line in about]
@@ -569,12 +663,11 @@ class Transcript:
         where = f"{self.name}: {line} = {outcome}, not {expected}"
         assert outcome == expected, where
         self.lines.append(f"{line} = {outcome}" + self.tail)
-        for at, data in self.lent.stored:
-            self.lines.append((at, data))
+        self.lines += self.lent.stored
         self.lines += [f"then {then}" for then in thens]
         self.lines.append("compare")
 
-        for at, data in self.lent.stored:
+        for at, data, _ in self.lent.stored:
             put(self.before.device, at, data)
         for then in thens:
             apply(self.before, then)
@@ -597,6 +690,20 @@ class Transcript:
             self.given(f"maps {len(self.lent.maps)} 2")
         if not any(self.lent.owners):
             self.given(f"owners {words((3 * n + 1) % 256 for n in range(len(self.lent.owners)))}")
+
+    def format(self, keys, expected, count=None):
+        """With a list of keys, or with the bytes of all and the count."""
+        self.begin()
+        if count is None:
+            count, keys = len(keys), b"".join(keys)
+        thens = []
+        try:
+            format_device(self.lent, count, keys)
+            outcome = "0"
+            thens = [f"position {self.lent.position}"]
+        except Refused as refused:
+            outcome = str(refused.number)
+        self.called(f"format {count} {hexed(keys)}", expected, outcome, thens)
 
     def open(self, key, expected):
         self.spoil()
@@ -667,19 +774,21 @@ class Transcript:
 
     def image(self, name):
         """The device is now a file of its own, whole."""
-        FILES[name] = bytes(self.lent.device)
-        self.after = name
+        device = bytes(self.lent.device)
+        assert FILES.setdefault(name, device) == device, f"{self.name}: {name}"
+        self.images.append(name)
         self.lines.append(f"image {name}")
 
     def finish(self):
-        """Stored bytes are named where the last image still has them; the others go to a file for them."""
-        last = FILES[self.after] if self.after else b""
+        """Stored bytes are named where an image still has them; the others go to a file for them."""
         out = []
         for line in self.lines:
             if not isinstance(line, str):
-                at, data = line
-                where = f"{self.after} {at}" if last[at : at + len(data)] == data else add("patches.bin", data)
-                line = f"then bytes {at} {where} {len(data)}"
+                at, data, where = line
+                for name in self.images:
+                    if where is None and FILES[name][at : at + len(data)] == data:
+                        where = f"{name} {at}"
+                line = f"then bytes {at} {where or add('patches.bin', data)} {len(data)}"
             out.append(line)
         assert all(len(line) < 2048 for line in out)
         FILES[self.name] = ("\n".join(out) + "\n").encode()
