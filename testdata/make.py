@@ -1652,6 +1652,406 @@ def lengths():
     t.finish()
 
 
+# What formatting draws from: at position 0 nothing but noise, at some other positions a VMK whose cell two keys open.
+FORMAT_TAPE = 60000
+
+# Where: position, count of keys, the cell, the key that seals it, and the other one that opens it. Keys by their numbers.
+TWO_KEYS = ((2000, 2, 0, 0, 20), (3000, 3, 1, 1, 21), (4000, 15, 0, 0, 22), (4000, 15, 13, 13, 23), (5800, 15, 9, 9, 24))
+
+
+def format_key(n):
+    return Noise(f"format, key {n}").take(32)
+
+
+def format_keys(*numbers):
+    return [format_key(n) for n in numbers]
+
+
+def format_tape():
+    """The words that name it in a transcript."""
+    g = SMALL
+    data = bytearray(Noise("tape format").take(FORMAT_TAPE))
+    for position, count, cell, key, other in TWO_KEYS:
+        vmk = position + g.length + 64 * cell
+        iv = position + g.length + 64 * count + 12 * cell
+        sealing = format_key(key), format_key(other), bytes(data[iv : iv + 12]), bytes([cell])
+        put(data, vmk, text_for_two(*sealing, bytes(data[vmk : vmk + 16])))
+    return f"{add('tapes.bin', bytes(data))} {FORMAT_TAPE}"
+
+
+def shorter(tape_words, length):
+    """The same tape, cut."""
+    return words(tape_words.split(" ")[:2] + [length])
+
+
+def format_small():
+    """Blank devices, and sessions on them."""
+    g = SMALL
+    key = format_keys(*range(VOLUMES))
+    some = {n: text(f"formatted, text {n}", g.B) for n in range(3)}
+    t = Transcript("format.txt", "Devices that formatting makes, and sessions on them.")
+    t.given(f"geometry {words(g)}")
+    t.given(f"zeros {g.length}")
+    t.given("maps 60 7")
+    t.given("owners 7 0 255 1")
+    t.given("permutation 2 0 3 1")
+    t.given(f"tape {format_tape()}")
+    t.given(f"session 4096 3 2 1 1 {Noise('no session').take(32).hex()}")
+
+    t.say("One key. Tables and session are not the formatting's.")
+    t.format(key[:1], "0")
+    assert t.lent.position == 52224 + 88 + 16
+    for i in (1, 2, 14):
+        t.open(key[i], "6")
+    t.open(NO_KEY, "6")
+    t.open(key[0], "0 0")
+    t.reads(*((0, address, None) for address in range(16)))
+    t.read(1, 0, "11")
+    t.find(0, 0, "0")
+
+    t.say("Three keys, from a position inside the tape, over the device that was made before.")
+    t.given("position 7")
+    t.format(key[:3], "0")
+    t.image("formatted.img")
+    assert t.lent.position == 7 + 52224 + 3 * (88 + 16)
+    for i in range(3):
+        t.open(key[i], f"0 {i}")
+        t.reads(*((volume, address, None) for volume in range(i + 1) for address in (0, 5, 15)))
+        t.read(i + 1, 0, "11")
+    for i in (3, 14):
+        t.open(key[i], "6")
+    t.say("A session: claims of all three volumes, a rewrite, a close, and the next openings.")
+    t.open(key[2], "0 2")
+    t.write(1, 5, some[0], "0 claimed 2 1")
+    t.write(0, 0, some[1], "0 claimed 0 2")
+    t.write(2, 15, some[2], "0 claimed 3 3")
+    t.write(1, 6, some[1], "0 rewritten 2 0")
+    t.reads((1, 5, some[0]), (1, 6, some[1]), (1, 4, None), (0, 0, some[1]), (2, 15, some[2]))
+    t.close("0")
+    for i in range(3):
+        t.open(key[i], f"0 {i}")
+        t.reads((0, 0, some[1]), (0, 1, None), (0, 4, None))
+        if i >= 1:
+            t.reads((1, 5, some[0]), (1, 6, some[1]), (1, 0, None))
+        if i >= 2:
+            t.reads((2, 15, some[2]), (2, 14, None), (2, 0, None))
+
+    t.say("With this session open and volumes in use: the same formatting makes the same device. The session stays, and what",
+          "it holds of the old device is now noise.")
+    t.given("position 7")
+    t.format(key[:3], "0")
+    t.image("formatted.img")
+    t.read(1, 5, "0")
+    t.read(0, 4, "0", bytes(g.B))
+    t.open(key[2], "0 2")
+    t.reads((1, 5, None), (0, 0, None), (2, 15, None))
+
+    t.say("A device that held three volumes and gets two other keys: the old keys open nothing.")
+    t.given("device small-after.img 52224")
+    t.given("position 1501")
+    t.format(format_keys(15, 16), "0")
+    for old in small_image().key[:3] + key[:3]:
+        t.open(old, "6")
+    for i in (0, 1):
+        t.open(format_key(15 + i), f"0 {i}")
+        t.reads(*((volume, address, None) for volume in range(i + 1) for address in (0, 4, 13)))
+    t.write(0, 13, some[2], "0 claimed 2 1")
+    t.close("0")
+    t.open(format_key(15), "0 0")
+    t.reads((0, 13, some[2]), (0, 12, None))
+
+    t.say("The same keys in another order.")
+    t.given("position 7")
+    t.format([key[2], key[0], key[1]], "0")
+    for volume, i in enumerate((2, 0, 1)):
+        t.open(key[i], f"0 {volume}")
+
+    t.say("All 15 volumes, with a tape that ends where the formatting does.")
+    t.given(f"zeros {g.length}")
+    t.given(f"tape {shorter(format_tape(), 1 + 52224 + 15 * 104)}")
+    t.given("position 1")
+    t.format(key, "0")
+    t.image("formatted-fifteen.img")
+    for i in range(VOLUMES):
+        t.open(key[i], f"0 {i}")
+        t.reads((i, 0, None), (i // 2, 15, None))
+        t.read(i + 1, 0, "11")
+    t.given("position 0")
+    t.write(14, 3, some[0], "0 claimed 2 1")
+    t.write(0, 3, some[1], "0 claimed 0 2")
+    t.write(7, 3, some[2], "0 claimed 3 3")
+    t.close("0")
+    t.open(key[14], "0 14")
+    t.reads((14, 3, some[0]), (0, 3, some[1]), (7, 3, some[2]), (13, 3, None), (14, 2, None))
+    t.open(key[7], "0 7")
+    t.reads((7, 3, some[2]), (0, 3, some[1]), (6, 3, None))
+    t.finish()
+
+
+def format_sizes():
+    """Other geometries. The tapes are parts of two-maps.img, which is noise for the most part."""
+    t = Transcript("format-sizes.txt", "Formatting with other sizes: two map blocks, blocks of 4,096, the most blocks in a slice.")
+    for g, offset, count, places in (
+        (Geometry(1024, 1, 253), 0, 2, ((1, 252), (0, 251), (0, 0))),
+        (Geometry(1024, 64, 1), 240000, 1, ()),
+        (Geometry(4096, 3, 2), 200000, 2, ((1, 5),)),
+        (Geometry(4096, 1, 1), 300000, 3, ((2, 0),)),
+    ):
+        key = format_keys(*range(30, 30 + count))
+        need = g.length + count * (88 + 16 * g.m)
+        assert need == {253: 565488, 1: 98408 if g.S == 64 else 135480, 2: 159952}[g.P]
+        t.say(f"B {g.B}, S {g.S}, P {g.P}, a device of {g.length} bytes. Keys: {count}, and so {need} bytes of the tape.")
+        t.given(f"geometry {words(g)}")
+        t.given(f"zeros {g.length}")
+        t.given(f"maps {VOLUMES * g.P} -")
+        t.given(f"owners {words([0] * g.P)}")
+        t.given(f"permutation {words(range(g.P - 1, -1, -1))}")
+        t.given(f"tape two-maps.img {offset} {5 + need - 1}")
+        t.given("position 5")
+        t.format(key, "21")
+        t.given(f"tape two-maps.img {offset} {5 + need}")
+        t.format(key, "0")
+        t.given(f"tape two-maps.img {offset} {5 + need + 4480}")
+        for i in range(count):
+            t.open(key[i], f"0 {i}")
+            t.reads((i, 0, None), (0, g.P * g.S - 1, None))
+            t.read(i, g.P * g.S, "12")
+            t.read(i + 1, 0, "11")
+        for n, (volume, address) in enumerate(places):
+            t.write(volume, address, text(f"formatted, size {g.B}, block {address}", g.B), f"0 claimed {g.P - 1 - n} {n + 1}")
+        if places:
+            if g.B == 4096:
+                t.given("position 0")
+            t.close("0")
+            t.open(key[-1], f"0 {count - 1}")
+            t.reads(*((volume, address, text(f"formatted, size {g.B}, block {address}", g.B)) for volume, address in places))
+    t.finish()
+
+
+def format_refusals():
+    """The refusals of a formatting in their order, and that nothing is changed."""
+    g = SMALL
+    key = format_keys(*range(17))
+    whole = "device small.img 52224"
+    tape_words = format_tape()
+    twice = [key[0], key[1], key[0]]
+    t = Transcript(
+        "format-refusals.txt",
+        "Every refusal of a formatting, with the conditions of later ones standing too. A refused one changes nothing.",
+    )
+    t.given("maps 60 7")
+    t.given("owners 7 0 255 1")
+    t.given("permutation 2 0 3 1")
+    t.given(f"session 4096 3 2 1 1 {Noise('no session').take(32).hex()}")
+
+    t.say("1: geometries that are not allowed, with everything else wrong too.")
+    t.given("device small.img 0")
+    t.given(f"tape {shorter(tape_words, 100)}")
+    t.given("position 101")
+    for geometry in (
+        "0 4 4", "16 1 4", "512 4 4", "1023 4 4", "1025 4 4", "2048 4 4", "8192 4 4", "4294968320 4 4", "1024 0 4", "1024 65 4",
+        "1024 4294967300 4", "4096 0 4", "4096 257 4", "1024 4 0", "1024 4 4097", "1024 4 4294967300", "0 0 0",
+        "18446744073709551615 18446744073709551615 18446744073709551615",
+    ):
+        t.given(f"geometry {geometry}")
+        t.format(b"", "1", 0)
+    t.format(key[0][:31], "1", 16)
+    t.given(whole)
+    t.given(f"tape {tape_words}")
+    t.given("position 0")
+    t.given("geometry 1024 65 4")
+    t.say("1 alone, and before each of the others alone.")
+    t.format(key[:3], "1")
+    t.given("geometry 4096 4 4097")
+    t.format(key[:3], "1")
+    t.format(b"", "1", 0)
+    t.format(key[0][:31], "1", 1)
+    t.format(twice, "1")
+    t.given("position 60001")
+    t.format(key[:3], "1")
+
+    t.say("2: the device's length.")
+    t.given(f"geometry {words(g)}")
+    for device in ("device small.img 0", "device small.img 52223", "device two-maps.img 52225", "device two-maps.img 65536"):
+        t.given(device)
+        t.format(b"", "2", 0)
+        t.given("position 0")
+        t.format(key[:3], "2")
+        t.format(key[:16], "2")
+        t.format(key[0] + key[1][:31], "2", 2)
+        t.format(twice, "2")
+        t.given("position 60001")
+        t.format(key[:3], "2")
+    t.say("A device of 4,295,213,056 bytes, which is 2^32 and 245,760: a length worked out in 32 bits would be right here.")
+    t.given("geometry 4096 256 4080")
+    t.given("device two-maps.img 245760")
+    t.format(key[:1], "2")
+    t.given(f"geometry {words(g)}")
+    t.given(whole)
+
+    t.say("23: no key, or more than 15; with keys of the right length for the count, and of others.")
+    t.format(b"", "23", 0)
+    t.given("position 0")
+    t.format(b"", "23", 0)
+    t.format(key[:1], "0")
+    t.given(whole)
+    t.given("position 0")
+    t.format(key[0], "23", 0)
+    t.format(key[0][:31], "23", 0)
+    t.format(key[:16], "23")
+    t.format(key[:17], "23")
+    t.format([key[0]] * 16, "23")
+    for count in (16, 31, 255, 256, 257, 258, 2**16 + 1, 2**32, 2**32 + 1, 2**59, 2**59 + 1, 2**62 + 1, 2**63, 2**63 + 1, 2**64 - 1):
+        t.format(b"", "23", count)
+        t.format(key[0], "23", count)
+    t.format(b"".join(key[:15]), "23", 16)
+    t.format(b"".join(key[:2]), "23", 2**32 + 2)
+    t.given("position 60001")
+    t.format(key[:16], "23")
+    t.format(key[0], "23", 2**64 - 1)
+
+    t.say("3: not 32 bytes for each key. It comes before 21, and before 24.")
+    for position in (60001, 0):
+        t.given(f"position {position}")
+        for count, length in ((1, 0), (1, 31), (1, 33), (1, 64), (2, 32), (2, 63), (2, 65), (3, 0), (3, 3), (3, 95), (3, 97), (3, 128),
+                              (15, 32), (15, 448), (15, 479), (15, 481), (15, 512)):
+            t.format(b"".join(key[:16])[:length], "3", count)
+        t.format(key[0] + key[0] + key[1][:31], "3", 3)
+        t.format(key[0] + key[0], "3", 3)
+
+    t.say("21: too few bytes of the tape left. It comes before 24.")
+    for count in (1, 2, 3, 15):
+        need = 52224 + 104 * count
+        for position, length in ((0, need - 1), (1, need), (7776 - 104 * count + 1, 60000), (0, 0), (0, 52224), (52224, 52224), (60000, 60000)):
+            t.given(f"tape {shorter(tape_words, length)}")
+            t.given(f"position {position}")
+            t.format(key[:count], "21")
+            if count > 1:
+                t.format([key[0]] * count, "21")
+    t.say("The position past the end, also where the need added to it would begin anew.")
+    t.given(f"tape {tape_words}")
+    for position in (60001, 2**32, 2**32 + 1, 2**63, 2**64 - 52536, 2**64 - 52535, 2**64 - 52224, 2**64 - 1):
+        t.given(f"position {position}")
+        t.format(key[:3], "21")
+        t.format(twice, "21")
+
+    t.say("24: one key twice, with exactly as many bytes as are needed. In every pair of three.")
+    need = 52224 + 104 * 3
+    t.given(f"tape {shorter(tape_words, 11 + need)}")
+    t.given("position 11")
+    for same in ((0, 0, 1), (0, 1, 0), (1, 0, 0), (0, 0, 0)):
+        t.format([key[n] for n in same], "24")
+    t.format([NO_KEY, NO_KEY], "24")
+    t.say("In pairs of 15.")
+    t.given(f"tape {shorter(tape_words, 52224 + 104 * 15)}")
+    t.given("position 0")
+    for lower, higher in ((0, 1), (0, 14), (13, 14), (7, 8), (1, 12), (6, 14)):
+        some = key[:15]
+        some[higher] = some[lower]
+        t.format(some, "24")
+    t.say("Keys that are nearly one another, and served.")
+    t.format([key[0], key[0][:31] + bytes([key[0][31] ^ 1]), bytes([key[0][0] ^ 128]) + key[0][1:], NO_KEY], "0")
+    t.open(NO_KEY, "0 3")
+    t.open(key[0], "0 0")
+    t.finish()
+
+
+def lower_cells():
+    """Keys that open the cell of another volume."""
+    g = SMALL
+    key = format_keys(*range(30))
+    tape_words = format_tape()
+    twomaps = Image("two-maps.img", Geometry(1024, 1, 257))
+    t = Transcript(
+        "lower-cells.txt",
+        "Keys that open a cell which is sealed under another key. The VMK on the tape is chosen so: at position 2000, for two",
+        "keys, key 20 opens cell 0 of key 0; at 3000, for three, key 21 opens cell 1 of key 1; at 4000, for fifteen, key 22 opens",
+        "cell 0 of key 0 and key 23 cell 13 of key 13; at 5800, for fifteen, key 24 opens cell 9 of key 9.",
+    )
+    t.given(f"geometry {words(g)}")
+    t.given("device formatted.img 52224")
+    t.given("maps 60 7")
+    t.given("owners 7 0 255 1")
+    t.given("permutation 2 0 3 1")
+    t.given(f"tape {tape_words}")
+    t.given(f"session 4096 3 2 1 1 {Noise('no session').take(32).hex()}")
+
+    t.say("24: key 1 opens cell 0, though it is another key.")
+    t.given("position 2000")
+    t.format([key[0], key[20]], "24")
+    t.say("The order of the keys matters: under key 20 the cell is another one, which key 0 does not open. With a third key, and at",
+          "another position, the IV is another.")
+    t.format([key[20], key[0]], "0")
+    t.given("position 2000")
+    t.format([key[0], key[1], key[20]], "0")
+    t.given("position 2001")
+    t.format([key[0], key[20]], "0")
+    t.say("With another key in its place: the key that was refused opens cell 0, and finds no header.")
+    t.given("position 2000")
+    t.format([key[0], key[1]], "0")
+    t.open(key[20], "7")
+    t.open(key[0], "0 0")
+    t.open(key[1], "0 1")
+
+    t.say("24: key 2 opens cell 1.")
+    t.given("position 3000")
+    t.format([key[0], key[1], key[21]], "24")
+    t.say("Served: key 0 opens cell 1, which is a higher one. It opens its own volume, the lowest.")
+    t.format([key[21], key[1], key[2]], "0")
+    t.open(key[21], "0 0")
+    t.open(key[1], "0 1")
+    t.open(key[2], "0 2")
+    t.say("The same without it among the keys: it opens cell 1, and finds no header.")
+    t.given("position 3000")
+    t.format(key[:3], "0")
+    t.open(key[21], "7")
+
+    t.say("Fifteen keys: key 14 opens cell 0, or cell 13, or one key each; key 1 opens cell 0.")
+    t.given("position 4000")
+    t.format(key[:14] + [key[22]], "24")
+    t.format(key[:14] + [key[23]], "24")
+    t.format(key[:5] + [key[22]] + key[6:14] + [key[23]], "24")
+    t.format(key[:1] + [key[22]] + key[2:15], "24")
+    t.say("Served: key 12 opens cell 13, a higher one.")
+    t.format(key[:12] + [key[23]] + key[13:15], "0")
+    t.open(key[23], "0 12")
+    t.open(key[13], "0 13")
+    t.open(key[14], "0 14")
+    t.open(key[22], "7")
+    t.say("24: key 10, key 12 or key 14 opens cell 9.")
+    t.given("position 5800")
+    for i in (10, 12, 14):
+        t.format(key[:i] + [key[24]] + key[i + 1 : 15], "24")
+    t.say("Served: key 8 or key 0 opens cell 9.")
+    t.format(key[:8] + [key[24]] + key[9:15], "0")
+    t.given("position 5800")
+    t.format([key[24]] + key[1:15], "0")
+    t.open(key[24], "0 0")
+    t.open(key[9], "0 9")
+
+    t.say("Cells that stood on the device before count for nothing: keys 0 and 1 of formatted.img become keys 1 and 2.")
+    t.given("device formatted.img 52224")
+    t.given("position 0")
+    t.format([key[5], key[0], key[1]], "0")
+    for i, n in enumerate((5, 0, 1)):
+        t.open(key[n], f"0 {i}")
+    t.say("Nor do cells that stand on the tape, and go where others are sealed: the tape begins with two-maps.img's master block.")
+    t.given(f"tape two-maps.img 0 {52224 + 4096}")
+    t.given("position 0")
+    t.format([key[5], twomaps.key[0], twomaps.key[1]], "0")
+    for i, opener in enumerate((key[5], twomaps.key[0], twomaps.key[1])):
+        t.open(opener, f"0 {i}")
+    t.say("A cell of the tape above the volumes made is higher, and stays: key 0 opens it too, and its own first.")
+    t.given("position 0")
+    t.format([twomaps.key[1]], "0")
+    t.open(twomaps.key[1], "0 0")
+    t.given("position 0")
+    t.format([key[5]], "0")
+    t.open(twomaps.key[1], "7")
+    t.open(twomaps.key[0], "6")
+    t.finish()
+
+
 def make():
     check_layout()
     FILES["texts.bin"] = bytes(4096)  # zeros first: what an unmapped block reads as
@@ -1666,6 +2066,10 @@ def make():
     twocells()
     ignored()
     lengths()
+    format_small()
+    format_sizes()
+    format_refusals()
+    lower_cells()
 
 
 def main():
