@@ -18,7 +18,7 @@
 
 /* ---- What calls are lent -------------------------------------------------------------------------------------- */
 
-/* The lists and structs that calls take. TEXT is what is enciphered, BUFFER what is filled. */
+/* The lists and structs that calls take. KEY is one key or several, TEXT what is enciphered, BUFFER what is filled. */
 enum part {
     DEVICE, GEOMETRY, KEY, MAPS, OWNERS, PERMUTATION, TAPE, POSITION, SESSION, TEXT, BUFFER, WRITTEN, IV, AAD, TAG,
     PARTS
@@ -67,6 +67,7 @@ struct bench {
     struct states parts[PARTS];
     uint64_t volume;
     uint64_t address;
+    size_t count;           /* of a formatting's keys */
     uint64_t text_position; /* of keystream_at */
     size_t calls;
     size_t passed;
@@ -253,10 +254,10 @@ static void compare(struct bench *bench)
 
 /* ---- Calls ---------------------------------------------------------------------------------------------------- */
 
-enum function { OPEN, READ, FIND, WRITE, CLOSE, COUNTER_MODE, KEYSTREAM_AT, GCM_SEAL, GCM_OPEN, FUNCTIONS };
+enum function { OPEN, READ, FIND, WRITE, CLOSE, FORMAT, COUNTER_MODE, KEYSTREAM_AT, GCM_SEAL, GCM_OPEN, FUNCTIONS };
 
 static const char *const FUNCTION_NAMES[FUNCTIONS] = {
-    "open", "read", "find", "write", "close", "counter_mode", "keystream_at", "gcm_seal", "gcm_open"
+    "open", "read", "find", "write", "close", "format", "counter_mode", "keystream_at", "gcm_seal", "gcm_open"
 };
 
 #define BIT(part) (1u << (part))
@@ -268,6 +269,7 @@ static const unsigned TAKES[FUNCTIONS] = {
     BIT(DEVICE) | BIT(MAPS) | BIT(OWNERS) | BIT(SESSION) | BIT(BUFFER),
     BIT(DEVICE) | BIT(MAPS) | BIT(OWNERS) | BIT(PERMUTATION) | BIT(TAPE) | BIT(SESSION) | BIT(TEXT) | BIT(WRITTEN),
     BIT(DEVICE) | BIT(MAPS) | BIT(OWNERS) | BIT(TAPE) | BIT(SESSION),
+    BIT(DEVICE) | BIT(GEOMETRY) | BIT(KEY) | BIT(TAPE),
     BIT(KEY) | BIT(IV) | BIT(TEXT) | BIT(BUFFER),
     BIT(KEY) | BIT(IV) | BIT(TEXT) | BIT(BUFFER),
     BIT(KEY) | BIT(IV) | BIT(AAD) | BIT(TEXT) | BIT(BUFFER) | BIT(TAG),
@@ -357,6 +359,15 @@ static uint8_t call_close(struct bench *b)
                           session_of(b), length_of(b, SESSION));
 }
 
+static uint8_t call_format(struct bench *b)
+{
+    return hiwalgam_format(bytes_of(b, DEVICE), length_of(b, DEVICE),
+                           (const hiwalgam_geometry *)(void *)bytes_of(b, GEOMETRY), length_of(b, GEOMETRY),
+                           b->count,
+                           bytes_of(b, KEY), length_of(b, KEY),
+                           bytes_of(b, TAPE), length_of(b, TAPE), (size_t *)(void *)bytes_of(b, POSITION));
+}
+
 static uint8_t call_counter_mode(struct bench *b)
 {
     return hiwalgam_counter_mode(bytes_of(b, KEY), length_of(b, KEY), bytes_of(b, IV), length_of(b, IV),
@@ -393,6 +404,7 @@ static size_t call(struct bench *bench, int function)
     case FIND: return call_find(bench);
     case WRITE: return call_write(bench);
     case CLOSE: return call_close(bench);
+    case FORMAT: return call_format(bench);
     case COUNTER_MODE: return call_counter_mode(bench);
     case KEYSTREAM_AT: return call_keystream_at(bench);
     case GCM_SEAL: return call_gcm_seal(bench);
@@ -900,6 +912,23 @@ static void line_close(struct bench *bench, struct words *words)
     if (!words->wrong) check_answer(bench, CLOSE, (size_t)answer);
 }
 
+static void line_format(struct bench *bench, struct words *words)
+{
+    struct bytes keys;
+    uint64_t answer;
+
+    bench->count = (size_t)take_number(words, UINT64_MAX);
+    keys = take_key(words);
+    take_equals(words);
+    answer = take_number(words, UINT8_MAX);
+    take_end(words);
+    if (!words->wrong) {
+        lend(bench, KEY, keys.at, keys.length);
+        check_answer(bench, FORMAT, (size_t)answer);
+    }
+    free(keys.at);
+}
+
 static void line_image(struct bench *bench, struct words *words)
 {
     struct bytes image = load(bench, take_word(words));
@@ -938,6 +967,7 @@ static void run_line(struct bench *bench, struct words *words, int *compare_is_d
         else if (take_this(words, "find")) line_find(bench, words);
         else if (take_this(words, "write")) line_write(bench, words);
         else if (take_this(words, "close")) line_close(bench, words);
+        else if (take_this(words, "format")) line_format(bench, words);
         else words->wrong = 1;
     }
 }
@@ -1007,7 +1037,10 @@ static void lend_hex(struct bench *bench, int part, const char *hex)
 /* Address 4 of volume 0 has slice 2. Address 0 has none, and a claim takes slice 1, the last of four probes. */
 enum { SMALL_B = 1024, SMALL_MAPPED = 4, SMALL_UNMAPPED = 0, SMALL_PROBES = 4 };
 
-/* Lends small.img, opened with the key of its volume 2, and everything else that a call takes; keeps all that. */
+/*
+ * Lends small.img, opened with the key of its volume 2, and everything else that a call takes; keeps all that. The tape
+ * is long enough to format the device with that key.
+ */
 static int open_small(struct bench *bench)
 {
     const hiwalgam_geometry geometry = { SMALL_B, 4, 4 };
@@ -1026,8 +1059,10 @@ static int open_small(struct bench *bench)
     lend_filled(bench, WRITTEN, sizeof(hiwalgam_written), UNSET_BYTE);
     bench->volume = 0;
     bench->address = SMALL_MAPPED;
+    bench->count = 1;
     check_answer(bench, OPEN, HIWALGAM_SERVED);
     keep_all(bench);
+    check_answer(bench, FORMAT, HIWALGAM_SERVED);
     put_all_back(bench);
     return bench->failed == 0;
 }
@@ -1066,6 +1101,7 @@ static void lend_all_wrong(struct bench *bench, int function)
     }
     bench->volume = UINT64_MAX;
     bench->address = UINT64_MAX;
+    bench->count = 0;
 }
 
 static void case_size(struct bench *bench, int function, int part, int which, int all_wrong)
@@ -1073,6 +1109,7 @@ static void case_size(struct bench *bench, int function, int part, int which, in
     put_all_back(bench);
     bench->volume = 0;
     bench->address = SMALL_MAPPED;
+    bench->count = 1;
     if (all_wrong) lend_all_wrong(bench, function);
     lend_resized(bench, part, other_size(bench, part, which));
     if (function == WRITE && part == SESSION) expect_zeros(bench, WRITTEN);
@@ -1090,7 +1127,7 @@ static void case_two_sizes(struct bench *bench, int function, int part, int othe
 static void group_struct_sizes(struct bench *bench)
 {
     if (!open_small(bench)) return;
-    for (int function = OPEN; function <= CLOSE; function++)
+    for (int function = OPEN; function <= FORMAT; function++)
         for (int part = 0; part < PARTS; part++) {
             if (!is_struct(part) || !takes(function, part)) continue;
             for (int which = 0; which < SIZES; which++) {
@@ -1118,7 +1155,8 @@ static const struct refusal NULL_REFUSALS[] = {
     { FIND, SESSION, 0 }, { FIND, DEVICE, 0 }, { FIND, MAPS, 0 }, { FIND, OWNERS, 0 },
     { WRITE, SESSION, 13 }, { WRITE, WRITTEN, 13 }, { WRITE, DEVICE, 2 }, { WRITE, MAPS, 4 }, { WRITE, OWNERS, 4 },
     { WRITE, PERMUTATION, 5 }, { WRITE, TEXT, 13 }, { WRITE, TAPE, 21 },
-    { CLOSE, SESSION, 13 }, { CLOSE, DEVICE, 2 }, { CLOSE, MAPS, 4 }, { CLOSE, OWNERS, 4 }, { CLOSE, TAPE, 21 }
+    { CLOSE, SESSION, 13 }, { CLOSE, DEVICE, 2 }, { CLOSE, MAPS, 4 }, { CLOSE, OWNERS, 4 }, { CLOSE, TAPE, 21 },
+    { FORMAT, GEOMETRY, 13 }, { FORMAT, DEVICE, 2 }, { FORMAT, KEY, 3 }, { FORMAT, TAPE, 21 }
 };
 
 static size_t answer_with_null(int function, unsigned nulls)
@@ -1129,16 +1167,18 @@ static size_t answer_with_null(int function, unsigned nulls)
     return SMALL_B; /* a find without `out` */
 }
 
-static void case_null(struct bench *bench, int function, unsigned nulls, uint64_t address)
+static void case_null(struct bench *bench, int function, unsigned nulls, uint64_t address, size_t count)
 {
     size_t answer = answer_with_null(function, nulls);
     int claim = function == WRITE && address == SMALL_UNMAPPED;
 
+    if (function == FORMAT && count == 0 && (nulls & (BIT(GEOMETRY) | BIT(DEVICE))) == 0) answer = HIWALGAM_KEY_COUNT;
     for (int part = 0; part < PARTS; part++) {
         put_back(bench, part);
         if ((nulls & BIT(part)) != 0) lend_null(bench, part);
     }
     bench->address = address;
+    bench->count = count;
     if (function == OPEN && answer != HIWALGAM_WRONG_LENGTH) expect_zeros(bench, SESSION);
     if (function == WRITE && (nulls & BIT(WRITTEN)) == 0)
         expect_written(bench, 0, 0, claim && answer == HIWALGAM_TAPE_SHORT ? SMALL_PROBES : 0);
@@ -1149,11 +1189,12 @@ static void case_null(struct bench *bench, int function, unsigned nulls, uint64_
 static void group_null(struct bench *bench)
 {
     if (!open_small(bench)) return;
-    for (int function = OPEN; function <= CLOSE; function++)
+    for (int function = OPEN; function <= FORMAT; function++)
         for (unsigned nulls = 1; nulls < BIT(PARTS); nulls++) {
             if ((nulls & ~TAKES[function]) != 0) continue;
-            case_null(bench, function, nulls, SMALL_MAPPED);
-            if (function == WRITE) case_null(bench, function, nulls, SMALL_UNMAPPED);
+            case_null(bench, function, nulls, SMALL_MAPPED, 1);
+            if (function == WRITE) case_null(bench, function, nulls, SMALL_UNMAPPED, 1);
+            if (function == FORMAT) case_null(bench, function, nulls, SMALL_MAPPED, 0);
         }
 }
 
@@ -1566,6 +1607,7 @@ static void group_overlap(struct bench *bench)
     case_shared(bench, WRITE, TEXT, TAPE);
     bench->address = SMALL_MAPPED;
     case_shared(bench, READ, OWNERS, DEVICE);
+    case_shared(bench, FORMAT, KEY, TAPE);
 
     lend_empty_state(bench);
     lend_vector(bench, &COUNTER_MODE_VECTOR, COUNTER_MODE_VECTOR.text);
@@ -1591,7 +1633,9 @@ static const struct group GROUPS[] = {
     { "small.txt", run_transcript }, { "two-maps.txt", run_transcript }, { "fifteen.txt", run_transcript },
     { "widest.txt", run_transcript }, { "two-cells.txt", run_transcript }, { "damaged.txt", run_transcript },
     { "refusals.txt", run_transcript }, { "tables.txt", run_transcript }, { "above.txt", run_transcript },
-    { "ignored.txt", run_transcript }, { "lengths.txt", run_transcript },
+    { "ignored.txt", run_transcript }, { "lengths.txt", run_transcript }, { "format.txt", run_transcript },
+    { "format-sizes.txt", run_transcript }, { "format-refusals.txt", run_transcript },
+    { "lower-cells.txt", run_transcript },
     { "sizes of structs", group_struct_sizes }, { "NULL", group_null }, { "closed sessions", group_closed },
     { "published vectors", group_published }, { "wrong tags", group_wrong_tag }, { "cipher lengths", group_lengths },
     { "cipher NULL", group_cipher_null }, { "parts of a text", group_pieces }, { "far positions", group_positions },
@@ -1629,7 +1673,7 @@ int main(int argc, char **argv)
     for (size_t i = 0; i < sizeof GROUPS / sizeof *GROUPS; i++) {
         struct bench sums;
         memset(&sums, 0, sizeof sums);
-        printf("%-18s", GROUPS[i].name);
+        printf("%-20s", GROUPS[i].name);
         fflush(stdout); /* the name is seen also where a call ends the program */
         for (int placement = 0; placement < PLACEMENTS; placement++)
             run_group(&GROUPS[i], argv[1], placement, &sums);
