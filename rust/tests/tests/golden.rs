@@ -219,6 +219,13 @@ impl State {
                 }
             }
             ["close"] => shown(engine.close(device, &mut tables, &mut tape, session)).to_string(),
+            ["format", count, keys] => {
+                let (keys, numbers) = (Guarded::new(&hexadecimal(keys)), self.geometry);
+                let unchanged = keys.clone();
+                let answer = engine.format(device, numbers, number(count), &keys, &mut tape);
+                assert!(keys == unchanged, "the keys differ");
+                shown(answer).to_string()
+            }
             _ => panic!("no call"),
         };
         self.position = tape.position;
