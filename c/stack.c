@@ -17,7 +17,7 @@
 
 enum { PAINTED = 1 << 20, ALLOWED = 16 * 1024 };
 
-/* A device with all volumes in use, and what calls take besides. */
+/* A device, which a formatting with 15 keys makes, and what calls take besides. */
 struct stick {
     hiwalgam_geometry geometry;
     uint8_t *device;
@@ -27,12 +27,11 @@ struct stick {
     uint8_t *tape;
     size_t device_length;
     size_t slices;
-    size_t map_blocks;
     size_t tape_length;
     size_t position;
     hiwalgam_session session;
     hiwalgam_written written;
-    uint8_t key[HIWALGAM_KEY_BYTES];
+    uint8_t keys[HIWALGAM_VOLUMES * HIWALGAM_KEY_BYTES];
     uint8_t iv[HIWALGAM_IV_BYTES];
     uint8_t tag[HIWALGAM_GCM_TAG_BYTES];
     uint8_t text[HIWALGAM_TEXT_LIMIT];
@@ -40,7 +39,7 @@ struct stick {
     size_t answer; /* of the last call */
 };
 
-/* ---- Making a device ------------------------------------------------------------------------------------------ */
+/* ---- Memory --------------------------------------------------------------------------------------------------- */
 
 static void *zeros(size_t count, size_t size)
 {
@@ -52,70 +51,26 @@ static void *zeros(size_t count, size_t size)
     return memory;
 }
 
-static void put_big_endian(uint8_t *at, uint64_t number)
-{
-    for (int i = 0; i < 4; i++) at[i] = (uint8_t)(number >> (24 - 8 * i));
-}
-
-/* Seals bytes under a key with a byte of associated data: IV of zeros, ciphertext, tag. */
-static void seal(uint8_t *at, int key, int associated, const uint8_t *text, size_t length)
-{
-    uint8_t key_bytes[HIWALGAM_KEY_BYTES], byte = (uint8_t)associated;
-    memset(key_bytes, key, sizeof key_bytes);
-    memset(at, 0, HIWALGAM_GCM_IV_BYTES);
-    if (hiwalgam_gcm_seal(key_bytes, sizeof key_bytes, at, HIWALGAM_GCM_IV_BYTES, &byte, 1, text, length,
-                          at + HIWALGAM_GCM_IV_BYTES, length, at + HIWALGAM_GCM_IV_BYTES + length,
-                          HIWALGAM_GCM_TAG_BYTES) != HIWALGAM_SERVED) exit(2);
-}
-
-/* The master key of volume i is 32 bytes 32 + i, its data key 32 bytes 64 + i, and all its entries are unmapped. */
-static void make_header(struct stick *stick, int volume)
-{
-    const size_t block = (size_t)stick->geometry.block_bytes;
-    uint8_t *header = stick->device + block * (1 + (size_t)volume * (1 + stick->map_blocks));
-    uint8_t text[72], data_key[HIWALGAM_KEY_BYTES], unmapped[HIWALGAM_TEXT_LIMIT];
-
-    memset(data_key, 64 + volume, sizeof data_key);
-    memcpy(text, data_key, 32);
-    memset(text + 32, 31 + volume, 32);
-    put_big_endian(text + 64, stick->geometry.slices);
-    put_big_endian(text + 68, stick->geometry.slice_blocks);
-    seal(header, 32 + volume, 16 + volume, text, sizeof text);
-
-    memset(unmapped, 0xff, sizeof unmapped);
-    for (size_t i = 0; i < stick->map_blocks; i++) {
-        uint8_t *map = header + block * (1 + i);
-        if (hiwalgam_counter_mode(data_key, sizeof data_key, map, 16, unmapped, block - 16, map + 16, block - 16)
-            != HIWALGAM_SERVED) exit(2);
-    }
-}
-
 static struct stick *make_stick(uint64_t block_bytes, uint64_t slice_blocks, uint64_t slices)
 {
     struct stick *stick = (struct stick *)zeros(1, sizeof *stick);
     const size_t entries = (size_t)(block_bytes - 16) / 4;
-    uint8_t master[HIWALGAM_KEY_BYTES];
-    const int top = HIWALGAM_VOLUMES - 1;
+    const size_t map_blocks = ((size_t)slices + entries - 1) / entries;
 
     stick->geometry.block_bytes = block_bytes;
     stick->geometry.slice_blocks = slice_blocks;
     stick->geometry.slices = slices;
     stick->slices = (size_t)slices;
-    stick->map_blocks = (stick->slices + entries - 1) / entries;
     stick->device_length = (size_t)(block_bytes
-        * (1 + HIWALGAM_VOLUMES * (1 + stick->map_blocks) + slices * (slice_blocks + 1)));
-    stick->tape_length = 1 << 16;
+        * (1 + HIWALGAM_VOLUMES * (1 + map_blocks) + slices * (slice_blocks + 1)));
+    stick->tape_length = stick->device_length + HIWALGAM_VOLUMES * (88 + 16 * map_blocks) + (1 << 16);
     stick->device = (uint8_t *)zeros(stick->device_length, 1);
     stick->maps = (uint32_t *)zeros(HIWALGAM_VOLUMES * stick->slices, sizeof *stick->maps);
     stick->owners = (uint8_t *)zeros(stick->slices, 1);
     stick->permutation = (uint32_t *)zeros(stick->slices, sizeof *stick->permutation);
     stick->tape = (uint8_t *)zeros(stick->tape_length, 1);
     for (size_t i = 0; i < stick->slices; i++) stick->permutation[i] = (uint32_t)(stick->slices - 1 - i);
-
-    memset(stick->key, 1, sizeof stick->key);
-    memset(master, 32 + top, sizeof master);
-    seal(stick->device + 16 + 60 * top, 1, top, master, sizeof master);
-    for (int volume = 0; volume <= top; volume++) make_header(stick, volume);
+    for (size_t i = 0; i < sizeof stick->keys; i++) stick->keys[i] = (uint8_t)(1 + i / HIWALGAM_KEY_BYTES);
     return stick;
 }
 
@@ -136,9 +91,17 @@ static void call_nothing(struct stick *s)
     s->answer = HIWALGAM_SERVED;
 }
 
+static void call_format(struct stick *s)
+{
+    s->answer = hiwalgam_format(s->device, s->device_length, &s->geometry, sizeof s->geometry,
+                                HIWALGAM_VOLUMES, s->keys, sizeof s->keys, s->tape, s->tape_length, &s->position);
+}
+
+/* Opens all volumes. */
 static void call_open(struct stick *s)
 {
-    s->answer = hiwalgam_open(s->device, s->device_length, &s->geometry, sizeof s->geometry, s->key, sizeof s->key,
+    s->answer = hiwalgam_open(s->device, s->device_length, &s->geometry, sizeof s->geometry,
+                              s->keys + sizeof s->keys - HIWALGAM_KEY_BYTES, HIWALGAM_KEY_BYTES,
                               s->maps, HIWALGAM_VOLUMES * s->slices, s->owners, s->slices,
                               s->permutation, s->slices, &s->session, sizeof s->session);
 }
@@ -177,19 +140,19 @@ static void call_close(struct stick *s)
 
 static void call_counter_mode(struct stick *s)
 {
-    s->answer = hiwalgam_counter_mode(s->key, sizeof s->key, s->iv, sizeof s->iv, s->text, sizeof s->text,
+    s->answer = hiwalgam_counter_mode(s->keys, HIWALGAM_KEY_BYTES, s->iv, sizeof s->iv, s->text, sizeof s->text,
                                       s->buffer, sizeof s->buffer);
 }
 
 static void call_keystream_at(struct stick *s)
 {
-    s->answer = hiwalgam_keystream_at(s->key, sizeof s->key, s->iv, sizeof s->iv, HIWALGAM_POSITION_LIMIT - 1,
+    s->answer = hiwalgam_keystream_at(s->keys, HIWALGAM_KEY_BYTES, s->iv, sizeof s->iv, HIWALGAM_POSITION_LIMIT - 1,
                                       s->text, sizeof s->text, s->buffer, sizeof s->buffer);
 }
 
 static void call_gcm_seal(struct stick *s)
 {
-    s->answer = hiwalgam_gcm_seal(s->key, sizeof s->key, s->iv, HIWALGAM_GCM_IV_BYTES,
+    s->answer = hiwalgam_gcm_seal(s->keys, HIWALGAM_KEY_BYTES, s->iv, HIWALGAM_GCM_IV_BYTES,
                                   s->iv, HIWALGAM_GCM_AAD_LIMIT, s->text, HIWALGAM_GCM_TEXT_LIMIT,
                                   s->buffer, HIWALGAM_GCM_TEXT_LIMIT, s->tag, sizeof s->tag);
 }
@@ -197,7 +160,7 @@ static void call_gcm_seal(struct stick *s)
 /* Opens what call_gcm_seal sealed, into the text, which has the same bytes afterwards. */
 static void call_gcm_open(struct stick *s)
 {
-    s->answer = hiwalgam_gcm_open(s->key, sizeof s->key, s->iv, HIWALGAM_GCM_IV_BYTES,
+    s->answer = hiwalgam_gcm_open(s->keys, HIWALGAM_KEY_BYTES, s->iv, HIWALGAM_GCM_IV_BYTES,
                                   s->iv, HIWALGAM_GCM_AAD_LIMIT, s->buffer, HIWALGAM_GCM_TEXT_LIMIT,
                                   s->tag, sizeof s->tag, s->text, HIWALGAM_GCM_TEXT_LIMIT);
 }
@@ -249,7 +212,8 @@ struct measured {
 
 /* In this order each call is served: the first write claims a slice, the second rewrites a block. */
 static struct measured calls[] = {
-    { "open", call_open, 0, 0 }, { "write, a claim", call_write, 0, 0 }, { "write, a rewrite", call_write, 0, 0 },
+    { "format", call_format, 0, 0 }, { "open", call_open, 0, 0 },
+    { "write, a claim", call_write, 0, 0 }, { "write, a rewrite", call_write, 0, 0 },
     { "read", call_read, 0, 0 }, { "find", call_find, 0, 0 }, { "close", call_close, 0, 0 },
     { "counter_mode", call_counter_mode, 0, 0 }, { "keystream_at", call_keystream_at, 0, 0 },
     { "gcm_seal", call_gcm_seal, 0, 0 }, { "gcm_open", call_gcm_open, 0, 0 }
