@@ -1652,11 +1652,13 @@ def lengths():
     t.finish()
 
 
-# What formatting draws from: at position 0 nothing but noise, at some other positions a VMK whose cell two keys open.
+# What formatting draws from: noise but for some IVs of map blocks, whose counters carry, and some VMKs, whose cells two keys
+# open. For these: position, count of keys, the cell, the key that seals it, and the other one that opens it, by their numbers.
 FORMAT_TAPE = 60000
-
-# Where: position, count of keys, the cell, the key that seals it, and the other one that opens it. Keys by their numbers.
 TWO_KEYS = ((2000, 2, 0, 0, 20), (3000, 3, 1, 1, 21), (4000, 15, 0, 0, 22), (4000, 15, 13, 13, 23), (5800, 15, 9, 9, 24))
+
+# Position, count of keys, volume, and with how many bytes FF the IV of its map block ends.
+CARRIES = ((0, 1, 0, 8), (7, 3, 1, 16), (7, 3, 2, 4), (1, 15, 14, 16), (1, 15, 0, 2))
 
 
 def format_key(n):
@@ -1668,9 +1670,12 @@ def format_keys(*numbers):
 
 
 def format_tape():
-    """The words that name it in a transcript."""
+    """The words that name it in a transcript. It is for devices of the small geometry."""
     g = SMALL
     data = bytearray(Noise("tape format").take(FORMAT_TAPE))
+    for position, count, volume, carried in CARRIES:
+        iv = position + g.length + 76 * count + 28 * volume + 12
+        put(data, iv + 16 - carried, FF16[:carried])
     for position, count, cell, key, other in TWO_KEYS:
         vmk = position + g.length + 64 * cell
         iv = position + g.length + 64 * count + 12 * cell
@@ -1790,7 +1795,7 @@ def format_small():
 
 def format_sizes():
     """Other geometries. The tapes are parts of two-maps.img, which is noise for the most part."""
-    t = Transcript("format-sizes.txt", "Formatting with other sizes: two map blocks, blocks of 4,096, the most blocks in a slice.")
+    t = Transcript("format-sizes.txt", "Devices of other sizes: two map blocks, blocks of 4,096, the most blocks in a slice.")
     for g, offset, count, places in (
         (Geometry(1024, 1, 253), 0, 2, ((1, 252), (0, 251), (0, 0))),
         (Geometry(1024, 64, 1), 240000, 1, ()),
@@ -1901,7 +1906,8 @@ def format_refusals():
     t.format(key[:16], "23")
     t.format(key[:17], "23")
     t.format([key[0]] * 16, "23")
-    for count in (16, 31, 255, 256, 257, 258, 2**16 + 1, 2**32, 2**32 + 1, 2**59, 2**59 + 1, 2**62 + 1, 2**63, 2**63 + 1, 2**64 - 1):
+    for count in (16, 31, 255, 256, 257, 258, 2**16 + 1, 2**32, 2**32 + 1, 2**59, 2**59 + 1, 2**62 + 1, 2**63, 2**63 + 1,
+                  2**64 - 1):
         t.format(b"", "23", count)
         t.format(key[0], "23", count)
     t.format(b"".join(key[:15]), "23", 16)
@@ -1913,8 +1919,8 @@ def format_refusals():
     t.say("3: not 32 bytes for each key. It comes before 21, and before 24.")
     for position in (60001, 0):
         t.given(f"position {position}")
-        for count, length in ((1, 0), (1, 31), (1, 33), (1, 64), (2, 32), (2, 63), (2, 65), (3, 0), (3, 3), (3, 95), (3, 97), (3, 128),
-                              (15, 32), (15, 448), (15, 479), (15, 481), (15, 512)):
+        for count, length in ((1, 0), (1, 31), (1, 33), (1, 64), (2, 32), (2, 63), (2, 65), (3, 0), (3, 3), (3, 95), (3, 97),
+                              (3, 128), (15, 32), (15, 448), (15, 479), (15, 481), (15, 512)):
             t.format(b"".join(key[:16])[:length], "3", count)
         t.format(key[0] + key[0] + key[1][:31], "3", 3)
         t.format(key[0] + key[0], "3", 3)
@@ -1922,7 +1928,8 @@ def format_refusals():
     t.say("21: too few bytes of the tape left. It comes before 24.")
     for count in (1, 2, 3, 15):
         need = 52224 + 104 * count
-        for position, length in ((0, need - 1), (1, need), (7776 - 104 * count + 1, 60000), (0, 0), (0, 52224), (52224, 52224), (60000, 60000)):
+        for position, length in ((0, need - 1), (1, need), (60000 - need + 1, 60000), (0, 0), (0, 52224), (52224, 52224),
+                                 (60000, 60000)):
             t.given(f"tape {shorter(tape_words, length)}")
             t.given(f"position {position}")
             t.format(key[:count], "21")
@@ -1964,9 +1971,9 @@ def lower_cells():
     twomaps = Image("two-maps.img", Geometry(1024, 1, 257))
     t = Transcript(
         "lower-cells.txt",
-        "Keys that open a cell which is sealed under another key. The VMK on the tape is chosen so: at position 2000, for two",
-        "keys, key 20 opens cell 0 of key 0; at 3000, for three, key 21 opens cell 1 of key 1; at 4000, for fifteen, key 22 opens",
-        "cell 0 of key 0 and key 23 cell 13 of key 13; at 5800, for fifteen, key 24 opens cell 9 of key 9.",
+        "Cells that open under a second key, another one than that under which they are sealed. The VMKs on the tape are",
+        "chosen so: at position 2000, with two keys, for cell 0; at 3000, with three, for cell 1; at 4000, with fifteen, for",
+        "cells 0 and 13; at 5800, with fifteen, for cell 9.",
     )
     t.given(f"geometry {words(g)}")
     t.given("device formatted.img 52224")
@@ -1976,53 +1983,53 @@ def lower_cells():
     t.given(f"tape {tape_words}")
     t.given(f"session 4096 3 2 1 1 {Noise('no session').take(32).hex()}")
 
-    t.say("24: key 1 opens cell 0, though it is another key.")
+    t.say("24: the second key of cell 0 is key 1.")
     t.given("position 2000")
     t.format([key[0], key[20]], "24")
-    t.say("The order of the keys matters: under key 20 the cell is another one, which key 0 does not open. With a third key, and at",
-          "another position, the IV is another.")
+    t.say("Served: in the other order the key of cell 0 is another; with a third key, or from another position, its IV.")
     t.format([key[20], key[0]], "0")
     t.given("position 2000")
     t.format([key[0], key[1], key[20]], "0")
     t.given("position 2001")
     t.format([key[0], key[20]], "0")
-    t.say("With another key in its place: the key that was refused opens cell 0, and finds no header.")
+    t.say("Served with another key instead. The second key opens cell 0 still, and finds no header.")
     t.given("position 2000")
     t.format([key[0], key[1]], "0")
     t.open(key[20], "7")
     t.open(key[0], "0 0")
     t.open(key[1], "0 1")
 
-    t.say("24: key 2 opens cell 1.")
+    t.say("24: the second key of cell 1 is key 2.")
     t.given("position 3000")
     t.format([key[0], key[1], key[21]], "24")
-    t.say("Served: key 0 opens cell 1, which is a higher one. It opens its own volume, the lowest.")
+    t.say("Served: it is key 0, and the cell a higher one. The key opens the lowest, its own.")
     t.format([key[21], key[1], key[2]], "0")
     t.open(key[21], "0 0")
     t.open(key[1], "0 1")
     t.open(key[2], "0 2")
-    t.say("The same without it among the keys: it opens cell 1, and finds no header.")
+    t.say("Served without it.")
     t.given("position 3000")
     t.format(key[:3], "0")
     t.open(key[21], "7")
 
-    t.say("Fifteen keys: key 14 opens cell 0, or cell 13, or one key each; key 1 opens cell 0.")
+    t.say("24: the second key of cell 0, or of cell 13, is key 14; those of cells 0 and 13 are keys 5 and 14; that of cell 0 is",
+          "key 1.")
     t.given("position 4000")
     t.format(key[:14] + [key[22]], "24")
     t.format(key[:14] + [key[23]], "24")
     t.format(key[:5] + [key[22]] + key[6:14] + [key[23]], "24")
     t.format(key[:1] + [key[22]] + key[2:15], "24")
-    t.say("Served: key 12 opens cell 13, a higher one.")
+    t.say("Served: key 12 is the second key of cell 13.")
     t.format(key[:12] + [key[23]] + key[13:15], "0")
     t.open(key[23], "0 12")
     t.open(key[13], "0 13")
     t.open(key[14], "0 14")
     t.open(key[22], "7")
-    t.say("24: key 10, key 12 or key 14 opens cell 9.")
+    t.say("24: key 10, 12 or 14 is the second key of cell 9.")
     t.given("position 5800")
     for i in (10, 12, 14):
         t.format(key[:i] + [key[24]] + key[i + 1 : 15], "24")
-    t.say("Served: key 8 or key 0 opens cell 9.")
+    t.say("Served: it is key 8, or key 0.")
     t.format(key[:8] + [key[24]] + key[9:15], "0")
     t.given("position 5800")
     t.format([key[24]] + key[1:15], "0")
@@ -2035,13 +2042,13 @@ def lower_cells():
     t.format([key[5], key[0], key[1]], "0")
     for i, n in enumerate((5, 0, 1)):
         t.open(key[n], f"0 {i}")
-    t.say("Nor do cells that stand on the tape, and go where others are sealed: the tape begins with two-maps.img's master block.")
+    t.say("Nor do cells on the tape that others are sealed over: this tape begins with the master block of two-maps.img.")
     t.given(f"tape two-maps.img 0 {52224 + 4096}")
     t.given("position 0")
     t.format([key[5], twomaps.key[0], twomaps.key[1]], "0")
     for i, opener in enumerate((key[5], twomaps.key[0], twomaps.key[1])):
         t.open(opener, f"0 {i}")
-    t.say("A cell of the tape above the volumes made is higher, and stays: key 0 opens it too, and its own first.")
+    t.say("A cell on the tape that nothing is sealed over stays. It is a higher one, also where a key opens it.")
     t.given("position 0")
     t.format([twomaps.key[1]], "0")
     t.open(twomaps.key[1], "0 0")
