@@ -2012,8 +2012,8 @@ def lower_cells():
     t.format(key[:3], "0")
     t.open(key[21], "7")
 
-    t.say("24: the second key of cell 0, or of cell 13, is key 14; those of cells 0 and 13 are keys 5 and 14; that of cell 0 is",
-          "key 1.")
+    t.say("24: the second key of cell 0, or that of cell 13, is key 14; those of cells 0 and 13 are keys 5 and 14; that of",
+          "cell 0 is key 1.")
     t.given("position 4000")
     t.format(key[:14] + [key[22]], "24")
     t.format(key[:14] + [key[23]], "24")
