@@ -17,6 +17,7 @@ the transcripts. The answers in the scenarios are written by hand; the model has
 tables, bytes and positions that follow from them.
 """
 
+import functools
 import hashlib
 import os
 import sys
@@ -1669,6 +1670,7 @@ def format_keys(*numbers):
     return [format_key(n) for n in numbers]
 
 
+@functools.lru_cache(maxsize=None)
 def format_tape():
     """The words that name it in a transcript. It is for devices of the small geometry."""
     g = SMALL
@@ -1791,6 +1793,29 @@ def format_small():
     t.open(key[7], "0 7")
     t.reads((7, 3, some[2]), (0, 3, some[1]), (6, 3, None))
     t.finish()
+
+
+def check_formatted():
+    """formatted.img taken apart, with places worked out by hand: it is made of tape bytes 7 to 52,542."""
+    name, offset, length = format_tape().split(" ")
+    drawn = FILES[name][int(offset) : int(offset) + int(length)]
+    device = FILES["formatted.img"]
+    whole = bytearray(drawn[7:52231])
+    vmk = [drawn[52231:52263], drawn[52295:52327], drawn[52359:52391]]
+    vek = [drawn[52263:52295], drawn[52327:52359], drawn[52391:52423]]
+    below = [bytes(32), vmk[0], vmk[1]]
+    for i, (cell, cell_iv, header, header_iv, block, block_iv) in enumerate((
+        (16, 52423, 1024, 52459, 2048, 52471),
+        (76, 52435, 3072, 52487, 4096, 52499),
+        (136, 52447, 5120, 52515, 6144, 52527),
+    )):
+        for at, size, iv, iv_size in ((cell, 60, cell_iv, 12), (header, 100, header_iv, 12), (block, 1024, block_iv, 16)):
+            put(whole, at, device[at : at + size])
+            assert device[at : at + iv_size] == drawn[iv : iv + iv_size]
+        assert unseal(format_key(i), device[cell : cell + 60], bytes([i])) == vmk[i]
+        assert unseal(vmk[i], device[header : header + 100], bytes([16 + i])) == vek[i] + below[i] + bytes([0, 0, 0, 4] * 2)
+        assert counter_mode(vek[i], device[block : block + 16], device[block + 16 : block + 1024]) == bytes([255] * 1008)
+    assert whole == device
 
 
 def format_sizes():
@@ -2074,6 +2099,7 @@ def make():
     ignored()
     lengths()
     format_small()
+    check_formatted()
     format_sizes()
     format_refusals()
     lower_cells()
