@@ -1167,6 +1167,7 @@ static size_t answer_with_null(int function, unsigned nulls)
     return SMALL_B; /* a find without `out` */
 }
 
+/* A formatting without any key, count 0, is refused by 23 where no earlier refusal applies. */
 static void case_null(struct bench *bench, int function, unsigned nulls, uint64_t address, size_t count)
 {
     size_t answer = answer_with_null(function, nulls);
