@@ -153,7 +153,7 @@ _Static_assert(sizeof(size_t) == 8, "a platform of 64 bits");
  * byte of the tape, and is moved on. The tape then holds the keys of the volumes: it is to be wiped.
  *
  * Refused by 13 (geometry of another size), 1, 2, 23, 3, 21, 24. The 24 comes where a key is given twice; with
- * keys that differ it is as unlikely as a forged tag.
+ * keys that differ and a random tape it is as unlikely as a forged tag.
  */
 uint8_t hiwalgam_format(uint8_t *device, size_t device_length,
                         const hiwalgam_geometry *geometry, size_t geometry_size,

@@ -10,7 +10,7 @@ use crate::Refusal;
 /// The most slices of a device.
 const SLICES_LIMIT: u64 = 4096;
 
-// A length is 0 where B, S or P is not allowed, which every call refuses before it looks at a length.
+// 0 serves where B, S or P is not allowed: every call refuses such a geometry before it looks at a length.
 impl Geometry {
     /// The bytes of a device, B x (1 + 15 x (1 + m) + P x (S + 1)), where m is the number of map
     /// blocks of each volume; 0 where B, S or P is not allowed.
