@@ -2,7 +2,7 @@
 use Prim.Native.Nat.{ℕ, zero, suc, _+_, _-_, _*_, _/_, _%_, _≤_, _<_}
 use mathlib.Core.Path.{_≡_, refl, sym, ap, ap₂, _∙_}
 use mathlib.Core.List.{List, [], _++_, append-nil, append-assoc}
-use mathlib.Core.Logic.{inr, ⊎-elim}
+use mathlib.Core.Logic.{_⊎_, inl, inr, ⊎-elim}
 use native.Mathlib.Omega.{arith}
 use native.Mathlib.Nat.{mul-comm, mod-lt, div-add-mod', div-lt-iff-lt-mul}
 use lib.ListN.{length, replicate, length-replicate}
@@ -28,7 +28,7 @@ use Rattle.model.proofs.MapBlocks.{marks-joined}
 use Rattle.model.proofs.Seals.{cell-opens, header-opens, header-text, map-entry}
 use Rattle.guarantees.specs.Rules.{First, formatRules, formatTape}
 use Rattle.guarantees.specs.Making.{Draws, belowOf, Made, cellMade, FormatAnswered, handed-wrong, lower-cell}
-use Rattle.guarantees.specs.Points.{Handed, Lent, opens, mapEntry, Blank, FormattedFor, FormattedOpens, FromMaking, FormatPoints}
+use Rattle.guarantees.specs.Points.{Handed, Lent, opens, mapEntry, Blank, FormattedFor, FormattedOpens, FromMaking, Right, FormatPoints}
 use Rattle.guarantees.proofs.Reflects.{eqb-reflects, reflects-stable, refutes-stable}
 use Rattle.guarantees.proofs.Chains.{first-leads, leads-passed, leads-zero}
 use Rattle.guarantees.proofs.Orders.{badGeometry-guards}
@@ -218,15 +218,50 @@ module _ (made : List ℕ) (x : Handed) (l : Lent) (i : ℕ) (n : ℕ) (keys : L
 
 -- ---- formatting
 
--- With one key no rule applies, and no cell is below the first.
-answered-served : {g : Geometry} {key tape : List ℕ} {position : ℕ} → Allowed g → length key ≡ 32
-    → Enough (length tape) position (formatTape g 1) → {r : FormatResult} → FormatAnswered (deviceLength g) g 1 key tape position r
-    → (made : List ℕ) × (r ≡ Formatted made (position + formatTape g 1))
-answered-served {g} {key} {tape} {position} ok long enough (handed-wrong r ne f) =
-    absurd (ne (leads-zero (first-leads (formatRules (deviceLength g) g 1 (length key) (length tape) position) f)
-    (λ k. k ok, (λ k. k refl, (⊎-elim (λ e. omega (arith, e)) (λ l. omega (arith, l)), (λ k. k long, (λ k. k enough, tt)))))))
-answered-served ok long enough (lower-cell f d i j vmk j<i i<1 o) = absurd (omega arith)
-answered-served ok long enough (FormatAnswered.served f d lower made m) = (made, refl)
+-- Where two keys are equal, the higher opens the lower one's cell.
+equal-opens : (g : Geometry) (n : ℕ) (keys made : List ℕ) (mk : Stick g n keys made) (i j : ℕ) → j < i → i < n → keyIn keys i ≡ keyIn keys j → ⊥
+equal-opens g n keys made mk i j l h e =
+    let shut = ap (λ (k : List ℕ). openCell k j (cellMade keys (mk .draws) j)) (sym e) ∙ mk .lower i j l h in
+    let opens =
+    sym (ap (openCell (keyIn keys j) j) (cell-is g n keys made mk j (omega arith)))
+    ∙ cell-opens made (keyIn keys j) (mk .draws .vmk j) j (mk .stands .cell j (omega arith)) in
+    let z : _≡_ {A = ℕ} 0 1 = cc in
+    omega arith
+
+-- Where what is handed in is right, no rule applies; what is left is 24.
+module _ {g : Geometry} {n : ℕ} {keys tape : List ℕ} {position : ℕ} (ok : Right g n keys tape position) where
+  right-passes : (r : ℕ) → First (formatRules (deviceLength g) g n (length keys) (length tape) position) r 0 → r ≡ 0
+  right-passes r f =
+      leads-zero (first-leads (formatRules (deviceLength g) g n (length keys) (length tape) position) f) (
+        λ k. k (ok .allowed),
+        (
+          λ k. k refl,
+          (
+            ⊎-elim (λ e. omega (arith, e, ok .least)) (λ l. omega (arith, l, ok .most)),
+            (λ k. k (ok .keyed), (λ k. k (ok .enough), tt)),
+          ),
+        ),
+      )
+
+  answered-right : {r : FormatResult} → FormatAnswered (deviceLength g) g n keys tape position r
+      → ((made : List ℕ) × (r ≡ Formatted made (position + formatTape g n))) ⊎ (r ≡ FormatResult.Refused 24)
+  answered-right (handed-wrong r ne f) = absurd (ne (right-passes r f))
+  answered-right (lower-cell f d i j vmk j<i i<n o) = inr refl
+  answered-right (FormatAnswered.served f d lower made m) = inl (made, refl)
+
+  answered-equal : (i j : ℕ) → j < i → i < n → keyIn keys i ≡ keyIn keys j
+      → {r : FormatResult} → FormatAnswered (deviceLength g) g n keys tape position r → r ≡ FormatResult.Refused 24
+  answered-equal i j l h e (handed-wrong r ne f) = absurd (ne (right-passes r f))
+  answered-equal i j l h e (lower-cell f d i′ j′ vmk j<i i<n o) = refl
+  answered-equal i j l h e (FormatAnswered.served f d lower made m) =
+      absurd (equal-opens g n keys made (answered-made (FormatAnswered.served f d lower made m) made (position + formatTape g n) refl) i j l h e)
+
+-- With one key no cell is below the first.
+answered-one : {g : Geometry} {key tape : List ℕ} {position : ℕ} → Right g 1 key tape position
+    → {r : FormatResult} → FormatAnswered (deviceLength g) g 1 key tape position r → (made : List ℕ) × (r ≡ Formatted made (position + formatTape g 1))
+answered-one ok (handed-wrong r ne f) = absurd (ne (right-passes ok r f))
+answered-one ok (lower-cell f d i j vmk j<i i<1 o) = absurd (omega arith)
+answered-one ok (FormatAnswered.served f d lower made m) = (made, refl)
 
 -- Formatted is made.
 stick : {made : List ℕ} {x : Handed} {l : Lent} {i : ℕ} (f : FormattedFor made x l i) → Stick (x .geometry) (f .n) (f .keys) made
@@ -241,13 +276,18 @@ format-points =
     record {
       blank = blank;
       runs = λ made x l i f. made-runs made x l i (f .n) (f .keys) (stick f) (f .below) (f .key) (f .names) (f .tables);
-      one-key = λ g ok key tape position long enough. answered-served ok long enough (format-answered (deviceLength g) g 1 key tape position);
+      right = λ g n keys tape position ok. answered-right ok (format-answered (deviceLength g) g n keys tape position);
+      one-key = λ g key tape position ok. answered-one ok (format-answered (deviceLength g) g 1 key tape position);
+      equal-keys = λ g n keys tape position ok i j l h e.
+          answered-equal ok i j l h e (format-answered (deviceLength g) g n keys tape position);
       some-opens = λ x l ok long names tables.
           let g = x .geometry in
           let need = formatTape g 1 in
           let zeros : List ℕ = replicate need 0 in
           let enough : Enough (length zeros) 0 need = omega (arith, length-replicate {A = ℕ} need 0) in
-          let m = answered-served ok long enough (format-answered (deviceLength g) g 1 (x .key) zeros 0) in
+          let given : Right g 1 (x .key) zeros 0 =
+          record { allowed = ok; least = omega arith; most = omega arith; keyed = long; enough = enough } in
+          let m = answered-one given (format-answered (deviceLength g) g 1 (x .key) zeros 0) in
           let f : FormattedFor (m .0) x l 0 =
           record {
             device = deviceLength g;

@@ -1,6 +1,7 @@
 -- The three points (README.md, "What is proved"), as statements about the model. Assumes nothing.
 use Prim.Native.Nat.{ℕ, _+_, _*_, _≤_, _<_}
 use mathlib.Core.Path.{_≡_}
+use mathlib.Core.Logic.{_⊎_}
 use mathlib.Core.List.{List, []}
 use mathlib.Core.Bool.{true}
 use lib.ListN.{length, getD, replicate}
@@ -16,7 +17,7 @@ use Rattle.model.specs.Opening.{OpenOutcome, OpenTo, openModel, storedEntry}
 use Rattle.model.specs.Read.{ReadResult, Filled, readModel, findModel, deciphered}
 use Rattle.model.specs.Write.{WriteResult, writeModel}
 use Rattle.model.specs.Close.{CloseResult, closeModel}
-use Rattle.model.specs.Format.{Formatted, formatModel}
+use Rattle.model.specs.Format.{FormatResult, Formatted, formatModel}
 use Rattle.guarantees.specs.Runs.{State, Call, Writing, Closing, Writes, Closes, outcome, next, final, events, positions, writtenByAll, Within}
 use Rattle.guarantees.specs.Rules.{First, readRules, writeRules, closeRules, formatTape, SearchEnds, heldEntry, ivIn, blockIn}
 use Rattle.guarantees.specs.Openings.{Lowest, Unlocked, OpenAnswered}
@@ -227,13 +228,28 @@ pub record FromMaking (made : List ℕ) (x : Handed) (l : Lent) (i : ℕ) : Type
   pub due : (cs : List Call) → AllDue (λ j a. replicate (x .geometry .b) 0) (begin made x l) cs
   pub guarantee : Guarantee made x l i
 
+-- What is handed to a formatting is right: the geometry, 1 to 15 keys of 32 bytes, and a tape that is long enough.
+pub record Right (g : Geometry) (n : ℕ) (keys tape : List ℕ) (position : ℕ) : Type 0 where
+  pub allowed : Allowed g
+  pub least : 1 ≤ n
+  pub most : n ≤ 15
+  pub keyed : length keys ≡ 32 * n
+  pub enough : Enough (length tape) position (formatTape g n)
+
+-- A device of the right length is made, and the position is past the bytes drawn.
+abbrev pub MadeWith : Geometry → (n : ℕ) → (keys tape : List ℕ) → (position : ℕ) → Type 0
+MadeWith g n keys tape position =
+    (made : List ℕ) × (formatModel (deviceLength g) g n keys tape position ≡ Formatted made (position + formatTape g n))
+
 pub record FormatPoints : Type 0 where
   pub blank : FormattedOpens
   pub runs : (made : List ℕ) (x : Handed) (l : Lent) (i : ℕ) → FormattedFor made x l i → FromMaking made x l i
-  -- With one key there is no lower cell: a right geometry, a key and a long enough tape are served.
-  pub one-key : (g : Geometry) → Allowed g → (key tape : List ℕ) (position : ℕ) → length key ≡ 32
-      → Enough (length tape) position (formatTape g 1)
-      → (made : List ℕ) × (formatModel (deviceLength g) g 1 key tape position ≡ Formatted made (position + formatTape g 1))
+  -- With what is handed in right, nothing but 24 can refuse; with one key there is no lower cell, and with two equal keys one opens.
+  pub right : (g : Geometry) (n : ℕ) (keys tape : List ℕ) (position : ℕ) → Right g n keys tape position
+      → MadeWith g n keys tape position ⊎ (formatModel (deviceLength g) g n keys tape position ≡ FormatResult.Refused 24)
+  pub one-key : (g : Geometry) (key tape : List ℕ) (position : ℕ) → Right g 1 key tape position → MadeWith g 1 key tape position
+  pub equal-keys : (g : Geometry) (n : ℕ) (keys tape : List ℕ) (position : ℕ) → Right g n keys tape position
+      → (i j : ℕ) → j < i → i < n → keyIn keys i ≡ keyIn keys j → formatModel (deviceLength g) g n keys tape position ≡ FormatResult.Refused 24
   -- So a device that opens exists, of every geometry and for every key.
   pub some-opens : (x : Handed) (l : Lent) → Allowed (x .geometry) → length (x .key) ≡ 32 → Names (x .geometry .p) (x .perm)
       → TablesFit (x .geometry) (length (l .maps)) (length (l .owners)) → (device : List ℕ) × (opens device x l .answer ≡ OpenTo 0)
