@@ -24,9 +24,10 @@ standing-first device maps owners s =
     refuse-first _ 20 _
     (geometry-first 20 (s .geometry) _
     (refuse-first _ 20 _
+    (refuse-first _ 20 _
     (refuse-first _ 2 _
     (refuse-first _ 4 _
-    (refuse-first _ 4 (λ rest. rest) rest-first)))))
+    (refuse-first _ 4 (λ rest. rest) rest-first))))))
 
 pub formatRefusal-first : (device : ℕ) (g : Geometry) (n keys tape position : ℕ) → 0 < formatRefusal device g n keys tape position 0
     → (rest : ℕ) → formatRefusal device g n keys tape position rest ≡ formatRefusal device g n keys tape position 0

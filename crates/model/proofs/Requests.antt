@@ -39,13 +39,14 @@ module _ (device maps owners : ℕ) (s : Session) (rest : ℕ) where
       let p3 = refuse-none _ _ _ (p2 .1) in
       let p4 = refuse-none _ _ _ (p3 .1) in
       let p5 = refuse-none _ _ _ (p4 .1) in
-      let p6 = refuse-none _ _ _ (p5 .1) in (
+      let p6 = refuse-none _ _ _ (p5 .1) in
+      let p7 = refuse-none _ _ _ (p6 .1) in (
         record {
-          usable = record { opened = not-false _ (p1 .0); allowed = p2 .0; top = ltb-false _ _ (p3 .0) };
-          long = eqb-true _ _ (not-false _ (p4 .0));
-          tables = (eqb-true _ _ (not-false _ (p5 .0)), eqb-true _ _ (not-false _ (p6 .0)));
+          usable = record { opened = not-false _ (p1 .0); allowed = p2 .0; top = ltb-false _ _ (p3 .0); place = ltb-false _ _ (p4 .0) };
+          long = eqb-true _ _ (not-false _ (p5 .0));
+          tables = (eqb-true _ _ (not-false _ (p6 .0)), eqb-true _ _ (not-false _ (p7 .0)));
         },
-        p6 .1,
+        p7 .1,
       )
 
   pub standing-stands : Stands device maps owners s → standing device maps owners s rest ≡ rest
@@ -54,6 +55,7 @@ module _ (device maps owners : ℕ) (s : Session) (rest : ℕ) where
       refuse-false _ _ _ (ap not (q .usable .opened))
       ∙ badGeometry-allowed _ _ _ (q .usable .allowed)
       ∙ refuse-false _ _ _ (le-ltb _ _ (q .usable .top))
+      ∙ refuse-false _ _ _ (le-ltb _ _ (q .usable .place))
       ∙ refuse-false _ _ _ (equal-passes _ _ (q .long))
       ∙ refuse-false _ _ _ (equal-passes _ _ (q .tables .0))
       ∙ refuse-false _ _ _ (equal-passes _ _ (q .tables .1))

@@ -1,9 +1,9 @@
--- The starred bench cases of document 01 ("Bench cases") as rows of one table, rows for the places that they leave open, and the
--- limits of a formatting (document 02, P1). Assumes nothing.
+-- The starred bench cases of document 01 ("Bench cases"), as document 02 has them, as rows of one table; further rows for what they
+-- leave open, for the limits of a formatting (document 02, P1) and for the start place (document 02, P2). Assumes nothing.
 use Prim.Native.Nat.{ℕ, _+_, _*_}
 use mathlib.Core.Path.{_≡_}
 use mathlib.Core.Bool.{true}
-use mathlib.Core.List.{List, [], _∷_}
+use mathlib.Core.List.{List, [], _∷_, _++_}
 use lib.ListN.{replicate}
 use Rattle.field.specs.Field.{times}
 use Rattle.field.specs.Sbox.{sbox}
@@ -14,8 +14,10 @@ use Rattle.model.specs.declared.Search.{Search}
 use Rattle.model.specs.declared.Search.the-variants.{Free, Bad, Full}
 use Rattle.model.specs.Geometry.{badGeometry, mapBlocks, headerBlocks, deviceLength, numberAt, fourBytes, cellStart, headerStart, mapStart}
 use Rattle.model.specs.Geometry.{ivStart, blockStart}
-use Rattle.model.specs.Session.{held, unmapped, sliceOf, offsetOf, standing, asked, noKeys}
-use Rattle.model.specs.Write.{firstFree, claimOutcome, WriteResult}
+use Rattle.model.specs.Session.{held, startingAt, unmapped, sliceOf, offsetOf, standing, asked, noKeys}
+use Rattle.model.specs.Search.{firstFree}
+use Rattle.model.specs.Opening.{Tables, withTables, noSession}
+use Rattle.model.specs.Write.{full, claimOutcome, WriteResult}
 use Rattle.model.specs.Close.{closeRefusal, closedSession}
 use Rattle.model.specs.Format.{formatNeed, formatRefusal}
 
@@ -26,9 +28,9 @@ sized b s p = record { b = b; s = s; p = p }
 abbrev pub stickA : Geometry
 stickA = sized 1024 4 4
 
--- An open session on a geometry.
+-- An open session on a geometry, with its start place at 0.
 abbrev pub session : Geometry → (k : ℕ) → Session
-session g k = record { geometry = g; k = k; keys = noKeys; opened = true }
+session g k = record { geometry = g; k = k; keys = noKeys; opened = true; start = 0 }
 
 -- The refusal of a session on a device of n bytes, with tables that fit, and of an asked address over an unmapped entry.
 abbrev pub onDevice : Geometry → ℕ → ℕ
@@ -63,11 +65,17 @@ sliceFound (Free ψ place) = ψ
 sliceFound (Bad place) = unmapped
 sliceFound Full = unmapped
 
--- A claim with owners, a permutation and a tape of 1,024 bytes: the slice that is found, then the answer.
+-- A claim with owners, a permutation and a tape of so many bytes, from a start place on: the slice that is found, the answer, and the
+-- start place that the claim leaves.
+abbrev pub claimsFrom : (start : ℕ) → (owners perm : List ℕ) → (tape : ℕ) → List ℕ
+claimsFrom start owners perm tape =
+    let found = firstFree owners 4 start perm in
+    let o = claimOutcome (held (replicate 60 unmapped) owners 0 (startingAt start (session stickA 0))) 0 0 0 [] (replicate tape 0) found in
+    sliceFound found ∷ (shown (o .answer) ++ (o .held .session .start ∷ []))
+
+-- The same in a session that an opening gave which loaded these owners, with this permutation.
 abbrev pub claims : (owners perm : List ℕ) → List ℕ
-claims owners perm =
-    sliceFound (firstFree owners 4 0 perm)
-    ∷ shown (claimOutcome (held (replicate 60 unmapped) owners 0 (session stickA 0)) 0 0 0 [] (replicate 1024 0) (firstFree owners 4 0 perm) .answer)
+claims owners perm = claimsFrom (withTables stickA perm 0 noKeys (Tables [] owners) .session .start) owners perm 1024
 
 -- A case: what the definitions give, and what the document says.
 pub record Case : Type 0 where
@@ -92,11 +100,26 @@ cases =
     ∷ row (blockStart stickA 2 3 ∷ (45 * 1024) ∷ []) (46080 ∷ 46080 ∷ [])
     -- A: address 15 is served, 16 is 12.
     ∷ row (atAddress stickA 15 ∷ atAddress stickA 16 ∷ []) (0 ∷ 12 ∷ [])
-    -- Permutation 2 0 3 1, owners free: slice 2, count 1.
-    ∷ row (claims (0 ∷ 0 ∷ 0 ∷ 0 ∷ []) (2 ∷ 0 ∷ 3 ∷ 1 ∷ [])) (2 ∷ 0 ∷ 1 ∷ [])
-    -- With 2, 0, 3 held: slice 1, count 4. All held: 22, count 4.
-    ∷ row (claims (1 ∷ 0 ∷ 1 ∷ 1 ∷ []) (2 ∷ 0 ∷ 3 ∷ 1 ∷ [])) (1 ∷ 0 ∷ 4 ∷ [])
-    ∷ row (claims (1 ∷ 1 ∷ 1 ∷ 1 ∷ []) (2 ∷ 0 ∷ 3 ∷ 1 ∷ [])) (unmapped ∷ 22 ∷ 4 ∷ [])
+    -- Permutation 2 0 3 1, owners free, opened so: slice 2, count 1; the start place is then 1.
+    ∷ row (claims (0 ∷ 0 ∷ 0 ∷ 0 ∷ []) (2 ∷ 0 ∷ 3 ∷ 1 ∷ [])) (2 ∷ 0 ∷ 1 ∷ 1 ∷ [])
+    -- With 2, 0, 3 held, opened so: slice 1, count 1. All held: 22, count 0 (document 02, P2). The start place is P after both.
+    ∷ row (claims (1 ∷ 0 ∷ 1 ∷ 1 ∷ []) (2 ∷ 0 ∷ 3 ∷ 1 ∷ [])) (1 ∷ 0 ∷ 1 ∷ 4 ∷ [])
+    ∷ row (claims (1 ∷ 1 ∷ 1 ∷ 1 ∷ []) (2 ∷ 0 ∷ 3 ∷ 1 ∷ [])) (unmapped ∷ 22 ∷ 0 ∷ 4 ∷ [])
+    -- The same two from start place 0, with the counts of document 01, and from 1, the 22 without tape: the places from there on count.
+    ∷ row (claimsFrom 0 (1 ∷ 0 ∷ 1 ∷ 1 ∷ []) (2 ∷ 0 ∷ 3 ∷ 1 ∷ []) 1024) (1 ∷ 0 ∷ 4 ∷ 4 ∷ [])
+    ∷ row (claimsFrom 0 (1 ∷ 1 ∷ 1 ∷ 1 ∷ []) (2 ∷ 0 ∷ 3 ∷ 1 ∷ []) 1024) (unmapped ∷ 22 ∷ 4 ∷ 4 ∷ [])
+    ∷ row (claimsFrom 1 (1 ∷ 0 ∷ 1 ∷ 1 ∷ []) (2 ∷ 0 ∷ 3 ∷ 1 ∷ []) 1024) (1 ∷ 0 ∷ 3 ∷ 4 ∷ [])
+    ∷ row (claimsFrom 1 (1 ∷ 1 ∷ 1 ∷ 1 ∷ []) (2 ∷ 0 ∷ 3 ∷ 1 ∷ []) 0) (unmapped ∷ 22 ∷ 3 ∷ 4 ∷ [])
+    -- From start place 1, slice 0 held: 21 on a tape one byte short, and 5, also without tape, where place 2 holds 9; count 2 in both,
+    -- and the start place stays.
+    ∷ row (claimsFrom 1 (1 ∷ 0 ∷ 0 ∷ 0 ∷ []) (2 ∷ 0 ∷ 3 ∷ 1 ∷ []) 1023) (3 ∷ 21 ∷ 2 ∷ 1 ∷ [])
+    ∷ row (claimsFrom 1 (1 ∷ 0 ∷ 0 ∷ 0 ∷ []) (2 ∷ 0 ∷ 9 ∷ 1 ∷ []) 0) (unmapped ∷ 5 ∷ 2 ∷ 1 ∷ [])
+    -- A 9 at place 0, before the start place, is not met.
+    ∷ row (claimsFrom 1 (1 ∷ 0 ∷ 0 ∷ 0 ∷ []) (9 ∷ 0 ∷ 3 ∷ 1 ∷ []) 1024) (3 ∷ 0 ∷ 2 ∷ 3 ∷ [])
+    -- From start place P on there is nothing to look at, although every slice is free.
+    ∷ row (claimsFrom 4 (0 ∷ 0 ∷ 0 ∷ 0 ∷ []) (2 ∷ 0 ∷ 3 ∷ 1 ∷ []) 1024) (unmapped ∷ 22 ∷ 0 ∷ 4 ∷ [])
+    -- A 22 leaves the tape position.
+    ∷ row (full (held [] [] 7 (session stickA 0)) .held .position ∷ []) (7 ∷ [])
     -- S-box: 00 to 63, 01 to 7c. Field: 57 times 83 is c1.
     ∷ row (sbox 0x00 ∷ sbox 0x01 ∷ times 0x57 0x83 ∷ []) (0x63 ∷ 0x7c ∷ 0xc1 ∷ [])
     -- Counter of 16 bytes FF, plus one: 16 bytes 00.
@@ -104,6 +127,12 @@ cases =
     -- Beyond the starred cases. S 64 is allowed at B 1,024, 65 is 1; 256 and 257 at B 4,096; P 0 and 4,097 are 1, and so are S 0, B 2,048.
     ∷ row (sizes 1024 64 1 ∷ sizes 1024 65 1 ∷ sizes 4096 256 4096 ∷ sizes 4096 257 4096 ∷ []) (0 ∷ 1 ∷ 0 ∷ 1 ∷ [])
     ∷ row (sizes 1024 1 0 ∷ sizes 1024 1 4097 ∷ sizes 1024 0 1 ∷ sizes 2048 1 1 ∷ []) (1 ∷ 1 ∷ 1 ∷ 1 ∷ [])
+    -- Start place P is allowed, P + 1 is 20 (document 02, P2), also where every length is wrong; a close leaves it, and a refused opening
+    -- has 0.
+    ∷ row (inSession (startingAt 4 (session stickA 0)) ∷ inSession (startingAt 5 (session stickA 0)) ∷ []) (0 ∷ 20 ∷ [])
+    ∷ row (standing 0 0 0 (startingAt 5 (session stickA 0)) 0 ∷ []) (20 ∷ [])
+    ∷ row (closedSession (startingAt 3 (session stickA 0)) .start ∷ startingAt 0 (startingAt 3 (session stickA 0)) .start ∷ noSession .start ∷ [])
+    (3 ∷ 0 ∷ 0 ∷ [])
     -- k 14 is allowed, 15 is 20; so is a geometry that is not allowed, and a closed session.
     ∷ row (inSession (session stickA 14) ∷ inSession (session stickA 15) ∷ []) (0 ∷ 20 ∷ [])
     ∷ row (inSession (session (sized 1024 65 4) 0) ∷ inSession (closedSession (session stickA 0)) ∷ []) (20 ∷ 20 ∷ [])

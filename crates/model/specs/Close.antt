@@ -1,4 +1,4 @@
--- Close (document 01, "Close"). It looks at no byte of the device, only at its length. Assumes nothing.
+-- Close (document 01, "Close"; document 02, P2). It looks at no byte of the device, only at its length. Assumes nothing.
 use Prim.Native.Nat.{ℕ, zero, suc, _+_, _*_}
 use mathlib.Core.List.{List, [], _∷_, _++_}
 use mathlib.Core.Bool.{Bool, false, _||_}
@@ -63,9 +63,9 @@ pub data CloseResult : Type 0 where
   Closed : CloseResult
   Refused : ℕ → CloseResult
 
--- The session after a close: its geometry and k stay.
+-- The session after a close: its geometry, k and, by document 02 (P2), its start place stay.
 abbrev pub closedSession : Session → Session
-closedSession s = record { geometry = s .geometry; k = s .k; keys = noKeys; opened = false }
+closedSession s = record { geometry = s .geometry; k = s .k; keys = noKeys; opened = false; start = s .start }
 
 -- The maps of volumes 0 to k on the device, and nothing held.
 abbrev pub closed : Held → (tape : List ℕ) → Outcome CloseResult

@@ -3,7 +3,8 @@
 --   stick            device: its bytes, as a list
 --   tape mark        tape position: the number of the next unused tape byte (`TapePosition`, `Held.position`)
 --   mark FFFFFFFF    `unmapped`, the entry of a logical slice that has no slice
---   places looked at probes, the places of the permutation that a claim passed or took
+--   places looked at probes, the places of the permutation that a claim passed or took, counted from the start place
+--   start place      `Session.start`: the place of the permutation where a claim begins to look
 --   B, S, P, m, H    `Geometry` b, s, p; `mapBlocks`, `headerBlocks`
 --   slice ψ          a physical slice, by its number; logical slice σ of a volume is an index into its row of the map table
 --   entry            what the map table or a header's map holds for a logical slice: a slice's number or the mark. `entry` is that of
@@ -20,6 +21,7 @@
 pub mod Parts
 pub mod Geometry
 pub mod Session
+pub mod Search
 pub mod Opening
 pub mod Conditions
 pub mod Read

@@ -1,4 +1,4 @@
--- Opening (document 01, "Opening"): the device is seen through its key cells and headers alone. Assumes nothing.
+-- Opening (document 01, "Opening"; document 02, P2): the device is seen through its key cells and headers alone. Assumes nothing.
 use Prim.Native.Nat.{ℕ, zero, suc, _+_, _-_, _*_, _/_, _%_}
 use mathlib.Core.List.{List, [], _∷_, _++_}
 use mathlib.Core.Bool.{Bool, true, false, not, _||_}
@@ -12,6 +12,7 @@ use Rattle.model.specs.declared.Session.{Session}
 use Rattle.model.specs.Parts.{choose, part}
 use Rattle.model.specs.Geometry.{badGeometry, deviceLength, perBlock, numberAt, cellOf, headerOf}
 use Rattle.model.specs.Session.{unmapped, unless, keyIn, noKeys}
+use Rattle.model.specs.Search.{firstFree, startPlace}
 
 -- ---- the lowest cell that opens
 
@@ -143,7 +144,7 @@ pub record OpenOutcome : Type 0 where
 
 -- The session of a refused opening: closed, its numbers and keys 0.
 abbrev pub noSession : Session
-noSession = record { geometry = record { b = 0; s = 0; p = 0 }; k = 0; keys = noKeys; opened = false }
+noSession = record { geometry = record { b = 0; s = 0; p = 0 }; k = 0; keys = noKeys; opened = false; start = 0 }
 
 -- Refused by 1 to 5: the tables stay.
 abbrev pub untouched : (maps owners : List ℕ) → ℕ → OpenOutcome
@@ -157,24 +158,29 @@ wiped g n = record { answer = NotOpened n; maps = noMaps g; owners = noOwners g;
 abbrev pub allKeys : (keys : List ℕ) → (k : ℕ) → List ℕ
 allKeys keys k = keys ++ replicate (32 * (14 - k)) 0
 
+-- The session of a served opening: its start place is the first free place, or P (document 02, P2).
+abbrev pub openSession : Geometry → (k : ℕ) → (keys owners perm : List ℕ) → Session
+openSession g k keys owners perm =
+    record { geometry = g; k = k; keys = keys; opened = true; start = startPlace (g .p) (firstFree owners (g .p) 0 perm) }
+
 -- Served, with the tables that were loaded, or 9 or 10.
-unfoldable pub withTables : Geometry → (k : ℕ) → (keys : List ℕ) → Loaded → OpenOutcome
-withTables g k keys (Spoilt n) = wiped g n
-withTables g k keys (Tables maps owners) =
-    record { answer = OpenTo k; maps = maps; owners = owners; session = record { geometry = g; k = k; keys = keys; opened = true } }
+unfoldable pub withTables : Geometry → (perm : List ℕ) → (k : ℕ) → (keys : List ℕ) → Loaded → OpenOutcome
+withTables g perm k keys (Spoilt n) = wiped g n
+withTables g perm k keys (Tables maps owners) =
+    record { answer = OpenTo k; maps = maps; owners = owners; session = openSession g k keys owners perm }
 
 -- From the data keys, or 7 or 8.
-unfoldable pub withKeys : Geometry → (header : ℕ → List ℕ) → (k : ℕ) → Chain → OpenOutcome
-withKeys g header k (Broken n) = wiped g n
-withKeys g header k (Keys keys) = withTables g k (allKeys keys k) (loadMaps g header (allKeys keys k) k)
+unfoldable pub withKeys : Geometry → (perm : List ℕ) → (header : ℕ → List ℕ) → (k : ℕ) → Chain → OpenOutcome
+withKeys g perm header k (Broken n) = wiped g n
+withKeys g perm header k (Keys keys) = withTables g perm k (allKeys keys k) (loadMaps g header (allKeys keys k) k)
 
 -- From the lowest cell that opens, or 6.
-unfoldable pub withCell : Geometry → (header : ℕ → List ℕ) → Cell → OpenOutcome
-withCell g header NoCell = wiped g 6
-withCell g header (At k vmk) = withKeys g header k (chain g header k vmk [])
+unfoldable pub withCell : Geometry → (perm : List ℕ) → (header : ℕ → List ℕ) → Cell → OpenOutcome
+withCell g perm header NoCell = wiped g 6
+withCell g perm header (At k vmk) = withKeys g perm header k (chain g header k vmk [])
 
 -- Opening.
 unfoldable pub openModel : (device : List ℕ) → Geometry → (key maps owners perm : List ℕ) → OpenOutcome
 openModel device g key maps owners perm =
     unless (openRefusal g (length device) (length key) (length maps) (length owners) perm) (untouched maps owners)
-    (withCell g (headerOf g device) (firstCell key (cellOf device) 15 0))
+    (withCell g perm (headerOf g device) (firstCell key (cellOf device) 15 0))

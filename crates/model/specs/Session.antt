@@ -36,6 +36,10 @@ keyIn keys i = part (32 * i) 32 keys
 abbrev pub keyOf : Session → ℕ → List ℕ
 keyOf s i = keyIn (s .keys) i
 
+-- A session with another start place (document 02, P2).
+abbrev pub startingAt : (start : ℕ) → Session → Session
+startingAt start s = record { geometry = s .geometry; k = s .k; keys = s .keys; opened = s .opened; start = start }
+
 -- The blocks of volume i.
 abbrev pub blockCount : Geometry → ℕ → ℕ
 blockCount g i = g .p * g .s
@@ -65,16 +69,17 @@ badEntry p x = not (eqb x unmapped || ltb x p)
 
 -- ---- refusals: the first whose condition holds, 0 for none
 
--- 20, 2 and 4, from the lengths of the device and the tables.
+-- 20 (a start place above P too: document 02, P2), 2 and 4, from the lengths of the device and the tables.
 unfoldable pub standing : (device maps owners : ℕ) → Session → (rest : ℕ) → ℕ
 standing device maps owners s rest =
     refuse (not (s .opened)) 20
     (badGeometry 20 (s .geometry)
     (refuse (ltb 14 (s .k)) 20
+    (refuse (ltb (s .geometry .p) (s .start)) 20
     (refuse (not (eqb device (deviceLength (s .geometry)))) 2
     (refuse (not (eqb maps (15 * s .geometry .p))) 4
     (refuse (not (eqb owners (s .geometry .p))) 4
-    rest)))))
+    rest))))))
 
 -- 11, 12, 13 (of a buffer or text len bytes long) and 9 (of the asked entry alone).
 unfoldable pub asked : (maps : List ℕ) → Session → (i a len : ℕ) → ℕ

@@ -14,12 +14,15 @@ use Rattle.model.specs.declared.Geometry.{Geometry}
 use Rattle.model.specs.declared.Session.{Session}
 use Rattle.model.specs.declared.Change.{Change}
 use Rattle.model.specs.declared.Change.the-variants.{Claimed, Rewritten}
+use Rattle.model.specs.declared.Search.the-variants.{Free, Bad, Full}
 use Rattle.model.specs.declared.OpenAnswer.the-variants as open-answer
 use Rattle.model.specs.declared.WriteAnswer.the-variants as write-answer
 use Rattle.model.specs.Parts.{choose, part, joined, patched}
 use Rattle.model.specs.Geometry.{Allowed, perBlock, mapBlocks, headerBlocks, deviceLength, numberAt, fourBytes, cellStart, cellOf}
 use Rattle.model.specs.Geometry.{headerStart, headerOf, mapStart, sliceStart, sliceSize, ivStart, blockStart}
 use Rattle.model.specs.Session.{Held, held, Outcome, keyIn, keyOf, slot, sliceOf, offsetOf, unmapped, noKeys}
+use Rattle.model.specs.Search.{firstFree}
+use Rattle.model.specs.Conditions.{sliceAt, AllHeld, FirstFree, FirstBad}
 use Rattle.model.specs.Opening.{At, openCell, openHeader, vekOf, vmkBelow, firstCell, storedEntry, allKeys}
 use Rattle.model.specs.Opening.{OpenResult, OpenTo, NotOpened, OpenOutcome}
 use Rattle.model.specs.Read.{deciphered, Filled, Refused}
@@ -135,6 +138,13 @@ pub record ModelLaws : Type 0 where
   -- The cell that an opening takes opens, and no lower one does.
   pub lowest : (key : List ℕ) (cell : ℕ → List ℕ) (k : ℕ) (vmk : List ℕ) → firstCell key cell 15 0 ≡ At k vmk
       → (openCell key k (cell k) ≡ Text vmk) × ((i : ℕ) → i < k → openCell key i (cell i) ≡ WrongTag)
+  -- The words for the end of a search say what the search finds, and none of them says less.
+  pub free-found : (owners : List ℕ) (p : ℕ) (perm : List ℕ) (start n : ℕ) → FirstFree owners p perm start n
+      → firstFree owners p start perm ≡ Free (sliceAt perm n) n
+  pub bad-found : (owners : List ℕ) (p : ℕ) (perm : List ℕ) (start n : ℕ) → FirstBad owners p perm start n
+      → firstFree owners p start perm ≡ Bad n
+  pub none-found : (owners : List ℕ) (p : ℕ) (perm : List ℕ) (start : ℕ) → start ≤ length perm → AllHeld owners p perm start (length perm)
+      → firstFree owners p start perm ≡ Full
   -- Whether a key opens a cell below its own: one that does, or every key is shut out of every lower cell.
   pub lower-opens : (keys : List ℕ) (cell : ℕ → List ℕ) (n : ℕ) → lowerOpens keys cell n ≡ true
       → (i : ℕ) × (j : ℕ) × (vmk : List ℕ) × (j < i) × (i < n) × (openCell (keyIn keys i) j (cell j) ≡ Text vmk)

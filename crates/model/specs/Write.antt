@@ -1,8 +1,8 @@
--- Write (document 01, "Write"). A write looks at no byte of the device, only at its length. Assumes nothing.
-use Prim.Native.Nat.{ℕ, suc, _+_, _-_, _*_}
+-- Write (document 01, "Write"; document 02, P2). A write looks at no byte of the device, only at its length. Assumes nothing.
+use Prim.Native.Nat.{ℕ, _+_, _-_, _*_}
 use mathlib.Core.List.{List, [], _∷_, _++_}
-use mathlib.Core.Bool.{Bool, true, false, not}
-use lib.ListN.{length, getD, set, replicate, drop}
+use mathlib.Core.Bool.{not}
+use lib.ListN.{length, set, replicate}
 use lib.Dec.{ltb, eqb}
 use Rattle.refusals.specs.Numbers.{refuse}
 use Rattle.ctr.specs.CounterMode.{ctr}
@@ -13,32 +13,13 @@ use Rattle.model.specs.declared.Search.{Search}
 use Rattle.model.specs.declared.Search.the-variants.{Free, Bad, Full}
 use Rattle.model.specs.Parts.{choose, part, joined}
 use Rattle.model.specs.Geometry.{sliceStart, ivStart, blockStart}
-use Rattle.model.specs.Session.{Held, Outcome, geometry, keyOf, slot, sliceOf, offsetOf, entryOf, standing, asked, short, unless, idle}
+use Rattle.model.specs.Search.{firstFree}
+use Rattle.model.specs.Session.{Held, Outcome, geometry, keyOf, startingAt, slot, sliceOf, offsetOf, entryOf}
+use Rattle.model.specs.Session.{standing, asked, short, unless, idle}
 
--- ---- the search of a claim
-
--- A place: bad where it names no slice, found where its slice is free, else what the rest says.
-abbrev pub seen : (inside free : Bool) → (slice place : ℕ) → Search → Search
-seen false free slice place rest = Bad place
-seen true true slice place rest = Free slice place
-seen true false slice place rest = rest
-
--- The first of the slices, which stand from a place on, whose owner is 0.
-unfoldable pub search : (owners : List ℕ) → (p place : ℕ) → (slices : List ℕ) → Search
-search owners p place [] = Full
-search owners p place (ψ ∷ slices) = seen (ltb ψ p) (eqb (getD owners ψ 0) 0) ψ place (search owners p (suc place) slices)
-
--- The first free place of a permutation from a start on.
-unfoldable pub firstFree : (owners : List ℕ) → (p start : ℕ) → (perm : List ℕ) → Search
-firstFree owners p start perm = search owners p start (drop start perm)
-
--- The place where a claim begins to look.
-abbrev pub startPlace : Session → ℕ
-startPlace s = 0
-
--- The number of places looked at, up to a place, that one included.
+-- The number of places looked at, from the start place up to a place, that one included.
 abbrev pub probesTo : Session → (place : ℕ) → ℕ
-probesTo s place = place + 1 - startPlace s
+probesTo s place = place + 1 - s .start
 
 -- ---- the outcomes
 
@@ -69,7 +50,8 @@ unfoldable pub claimedBytes : (b s : ℕ) → (key ivs : List ℕ) → (j : ℕ)
 claimedBytes b s key ivs j text = ivs ++ joined s (λ n. ctr key (part (16 * n) 16 ivs) (choose (eqb n j) text (replicate b 0)))
 
 -- Unmapped: slice ψ, found at a place, is claimed for logical slice σ of volume i. Its owner is set in the same call that
--- found it free, so that no later claim can find it free.
+-- found it free, so that no later claim can find it free. The start place becomes the claimed place plus one
+-- (document 02, P2).
 abbrev pub claimed : Held → (i σ j ψ place : ℕ) → (text tape : List ℕ) → Outcome WriteResult
 claimed h i σ j ψ place text tape =
     record {
@@ -85,14 +67,24 @@ claimed h i σ j ψ place text tape =
             maps = set (h .maps) (slot (geometry h) i σ) ψ;
             owners = set (h .owners) ψ (i + 1);
             position = h .position + geometry h .b;
-            session = h .session;
+            session = startingAt (place + 1) (h .session);
           };
+    }
+
+-- No place from the start place on is free: 22 with all of them looked at, and the start place becomes P (document 02, P2). No other
+-- refusal changes anything.
+abbrev pub full : Held → Outcome WriteResult
+full h =
+    record {
+      answer = Refused 22 (geometry h .p - h .session .start);
+      patches = [];
+      held = record { maps = h .maps; owners = h .owners; position = h .position; session = startingAt (geometry h .p) (h .session) };
     }
 
 -- A claim from what its search found: 5, 22, 21 with the places looked at, or the slice.
 abbrev pub claimOutcome : Held → (i σ j : ℕ) → (text tape : List ℕ) → Search → Outcome WriteResult
 claimOutcome h i σ j text tape (Bad place) = idle h (Refused 5 (probesTo (h .session) place))
-claimOutcome h i σ j text tape Full = idle h (Refused 22 (geometry h .p - startPlace (h .session)))
+claimOutcome h i σ j text tape Full = full h
 claimOutcome h i σ j text tape (Free ψ place) =
     choose (short (length tape) (h .position) (geometry h .b)) (idle h (Refused 21 (probesTo (h .session) place)))
     (claimed h i σ j ψ place text tape)
@@ -111,4 +103,4 @@ writeModel device h i a text perm tape =
     (choose (ltb (entryOf (h .maps) (geometry h) i a) (geometry h .p))
     (rewriteOutcome h i (entryOf (h .maps) (geometry h) i a) (offsetOf (geometry h) a) text tape)
     (claimOutcome h i (sliceOf (geometry h) a) (offsetOf (geometry h) a) text tape
-    (firstFree (h .owners) (geometry h .p) (startPlace (h .session)) perm)))
+    (firstFree (h .owners) (geometry h .p) (h .session .start) perm)))

@@ -13,12 +13,14 @@ pub struct Geometry {
     pub p: usize,
 }
 
-// A session, handed in and back: its geometry, the opened volume k, 15 data keys of 32 bytes end to end, open or closed.
+// A session, handed in and back: its geometry, the opened volume k, 15 data keys of 32 bytes end to end, open or closed, and
+// the start place, where a claim begins to look (document 02, P2).
 pub struct Session {
     pub geometry: Geometry,
     pub k: usize,
     pub keys: [u8; 480],
     pub opened: bool,
+    pub start: usize,
 }
 
 // The position of the next unused tape byte (document 01 calls it the tape mark).
@@ -62,7 +64,7 @@ pub struct Reply {
     pub session: Session,
 }
 
-// What the search of a claim finds: the first place of the permutation whose slice is free, a place that names no slice
+// What a search finds: the first place of the permutation, from a start on, whose slice is free, a place that names no slice
 // before it, or neither.
 pub enum Search {
     Free { slice: usize, place: usize },
@@ -88,7 +90,7 @@ pub fn model_laws()
     ensures { λ r. ⌜ ModelLaws ⌝ }
 {}
 
-// The bench cases of document 01, the starred ones and more, and the limits of a formatting.
+// The bench cases of document 01, the starred ones and more, as document 02 has them, with the limits of a formatting.
 pub fn bench_cases()
     ensures { λ r. ⌜ AllHold cases ⌝ }
 {}

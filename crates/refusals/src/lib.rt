@@ -1,4 +1,4 @@
-// What a call can be refused for (document 01, and 02 from 23 on), and the answer that says no more than served or refused.
+// What a call can be refused for (document 01; document 02 for 23, 24 and the start place), and the answer that says no more than served or refused.
 ghost use mathlib.Core.Path.{_≡_};
 ghost use Rattle.refusals.specs.Numbers.{refusalNumber, answerNumber};
 
@@ -34,11 +34,11 @@ pub enum Refusal {
     MalformedLine,
     // 15: the tag differs (GCM opening called alone).
     TagDiffers,
-    // 20: the session is closed, or its geometry or k is not allowed.
+    // 20: the session is closed, or its geometry, k or start place is not allowed.
     NotOpen,
     // 21: the tape has fewer bytes left than the call needs, or its position is past the end.
     TapeShort,
-    // 22: no slice that the permutation names is free.
+    // 22: no slice that the permutation names from the start place on is free.
     NoFreeSlice,
     // 23: no key, or more than 15 (formatting).
     KeyCount,

@@ -7,72 +7,27 @@ use Rattle.block.specs.Bytes.{numberAfter, bigEndian}
 use Rattle.ctr.specs.CounterMode.{increment}
 use Rattle.model.specs.Geometry.{badGeometry, mapBlocks, headerBlocks, deviceLength, mapStart, sliceStart, ivStart, blockStart}
 use Rattle.model.specs.Session.{standing, asked, short}
-use Rattle.model.specs.Write.{search, firstFree}
+use Rattle.model.specs.Search.{search, firstFree}
+use Rattle.model.specs.Opening.{withTables}
 use Rattle.model.specs.Close.{anyBad, closeRefusal}
 use Rattle.model.specs.Format.{formatNeed, formatRefusal}
 use Rattle.model.specs.Bench.{cases}
 use Rattle.model.proofs.bench_cases.Statement.{statement}
 use Rattle.model.proofs.bench_cases.Tie as tie
 
+infixr 5 _and_
+_and_ : {A B : Type 0} → A → B → A × B
+_and_ row rows = (row, rows)
+
 returns : tie.Need-returns
 unfolding cases refuse badGeometry mapBlocks headerBlocks deviceLength mapStart sliceStart ivStart blockStart standing asked short
-    search firstFree anyBad closeRefusal formatNeed formatRefusal xtimes timesBits times squared squares inverse bit affineBit affine sbox
+    search firstFree withTables anyBad closeRefusal formatNeed formatRefusal xtimes timesBits times squared squares inverse bit affineBit affine sbox
     numberAfter bigEndian increment
-returns c = (
-  refl,
-  (
-    refl,
-    (
-      refl,
-      (
-        refl,
-        (
-          refl,
-          (
-            refl,
-            (
-              refl,
-              (
-                refl,
-                (
-                  refl,
-                  (
-                    refl,
-                    (
-                      refl,
-                      (
-                        refl,
-                        (
-                          refl,
-                          (
-                            refl,
-                            (
-                              refl,
-                              (
-                                refl,
-                                (
-                                  refl,
-                                  (
-                                    refl,
-                                    (refl, (refl, (refl, (refl, (refl, (refl, (refl, tt))))))),
-                                  ),
-                                ),
-                              ),
-                            ),
-                          ),
-                        ),
-                      ),
-                    ),
-                  ),
-                ),
-              ),
-            ),
-          ),
-        ),
-      ),
-    ),
-  ),
-)
+returns c =
+    refl and refl and refl and refl and refl and refl and refl and refl and refl and refl and refl and refl and
+    refl and refl and refl and refl and refl and refl and refl and refl and refl and refl and refl and refl and
+    refl and refl and refl and refl and refl and refl and refl and refl and refl and refl and refl and refl and
+    refl and tt
 
 pub bench-cases-spec : {M : Type 1} → statement M
 bench-cases-spec = tie.close (tie.spec returns)

@@ -6,6 +6,7 @@ use Rattle.model.proofs.Blocks.{claimed-ivs, claimed-block}
 use Rattle.model.proofs.Cells.{firstCell-lowest, lowerOpens-ends, lowerOpens-true, lowerOpens-false}
 use Rattle.model.proofs.Keys.{allKeys-length, allKeys-above}
 use Rattle.model.proofs.MapBlocks.{mapBlock-row}
+use Rattle.model.proofs.Searches.{free-found, bad-found, none-found}
 use Rattle.model.proofs.Seals.{block-iv, block-entry}
 use Rattle.model.proofs.model_laws.Statement.{statement}
 use Rattle.model.proofs.model_laws.Tie as tie
@@ -14,6 +15,9 @@ returns : tie.Need-returns
 returns c =
     record {
       lowest = λ key cell k vmk e. let l = firstCell-lowest key cell 15 k vmk e in (l .1, l .2);
+      free-found = free-found;
+      bad-found = bad-found;
+      none-found = none-found;
       lower-opens = λ keys cell n e. lowerOpens-true keys cell (lowerOpens-ends keys cell n) e;
       lower-shut = λ keys cell n e. lowerOpens-false keys cell (lowerOpens-ends keys cell n) e;
       keys-above = λ keys k e l. (allKeys-length keys k e l, allKeys-above keys k e l);
