@@ -11,7 +11,7 @@ use Rattle.model.specs.declared.Geometry.{Geometry}
 use Rattle.model.specs.declared.Session.{Session}
 use Rattle.model.specs.Parts.{part, patched}
 use Rattle.model.specs.Geometry.{mapBlocks, headerBlocks, cellStart, cellOf, headerStart, headerOf, mapStart, sliceStart, ivStart, blockStart}
-use Rattle.model.specs.Session.{Held, held, Outcome, keyOf, sliceOf, offsetOf}
+use Rattle.model.specs.Session.{Held, held, Outcome, keyOf, sliceOf, offsetOf, startingAt}
 use Rattle.model.specs.Opening.{openHeader, storedEntry, mapEntries, Tables, loadMaps, OpenOutcome, allKeys}
 use Rattle.model.specs.Read.{deciphered}
 use Rattle.model.specs.Close.{CloseResult, mapPatches, closeNeed, closed, closeModel}
@@ -36,12 +36,12 @@ use Rattle.guarantees.proofs.Point2.{Open, Kept}
 -- ---- a close of the session that the opening sv gave
 
 module _ (s : List ℕ) (x : Handed) (l : Lent) (k : ℕ) (sv : Served s x l k) (perm : List ℕ) (at : ℕ) (l′ : Lent)
-    (device maps owners tape : List ℕ) (position : ℕ) (arrays : Arrays) where
+    (device maps owners tape : List ℕ) (position start : ℕ) (arrays : Arrays) where
   abbrev g : Geometry
   g = x .geometry
 
   abbrev h : Held
-  h = held maps owners position (openedBy s x l k sv .session)
+  h = held maps owners position (startingAt start (openedBy s x l k sv .session))
 
   abbrev y : Handed
   y = record { geometry = g; key = x .key; perm = perm; position = at }
@@ -215,11 +215,12 @@ run-again s x l k sv u arrays kept tape e y l′ eg ek names fit =
         → Enough (length tape) (u .held .position) (closeNeed c)
         → Reopens (patched (mapPatches (heldWith c) tape (c .k + 1)) (u .device)) y₀ l′ k arrays
 
-    session : u .held .session ≡ openedBy s x l k sv .session
-    session = op .session ∙ ap (λ (o : OpenOutcome). o .session) (served-is s x l k sv)
+    session : u .held .session ≡ startingAt (u .held .session .start) (openedBy s x l k sv .session)
+    session = op .session ∙ ap (λ (o : OpenOutcome). startingAt (u .held .session .start) (o .session)) (served-is s x l k sv)
 
-    literal : Then (openedBy s x l k sv .session)
+    literal : Then (startingAt (u .held .session .start) (openedBy s x l k sv .session))
     literal o enough =
-        close-reopens s x l k sv (y .perm) (y .position) l′ (u .device) (u .held .maps) (u .held .owners) tape (u .held .position) arrays o enough
+        close-reopens s x l k sv (y .perm) (y .position) l′ (u .device) (u .held .maps) (u .held .owners) tape (u .held .position)
+        (u .held .session .start) arrays o enough
         (subst (λ (g : Geometry). Names (g .p) (y .perm)) eg names)
         (subst (λ (g : Geometry). TablesFit g (length (l′ .maps)) (length (l′ .owners))) eg fit)

@@ -3,7 +3,7 @@ use Prim.Native.Nat.{ℕ, suc, _+_, _*_, _≤_, _<_}
 use mathlib.Core.Path.{_≡_, refl}
 use mathlib.Core.Logic.{inl, inr, ⊎-elim}
 use mathlib.Core.List.{List, _++_}
-use native.Mathlib.Nat.{sub-zero, mul-le-mul-right}
+use native.Mathlib.Nat.{mul-le-mul-right}
 use native.Mathlib.Omega.{arith}
 use lib.ListN.{length}
 use Rattle.model.specs.declared.Geometry.{Geometry}
@@ -71,8 +71,8 @@ close-answered device h tape =
 -- ---- write
 
 module _ (device : ℕ) (h : Held) (i a : ℕ) (text perm tape : List ℕ) where
-  ends : (n : ℕ) × SearchEnds (h .owners) (geometry h .p) perm n
-  ends = search-ends (h .owners) (geometry h .p) perm
+  ends : (n : ℕ) × SearchEnds h perm n
+  ends = search-ends h perm
 
   module _ (w : Writable device h i a text perm) where
     -- None of the early rules holds.
@@ -94,13 +94,13 @@ module _ (device : ℕ) (h : Held) (i a : ℕ) (text perm tape : List ℕ) where
       (λ w l lacking. WriteAnswered.refused (ends .0) 21 0 (omega arith) (ends .1) (late w (here (l, lacking) refl refl)))
       (λ w l enough. WriteAnswered.rewritten (ends .0) (ends .1)
       (late w (later (λ x. x .1 enough) (later (slice-not-mark w l) (later (slice-not-mark w l) (later (slice-not-mark w l) none))))) l)
-      (λ w u n f. WriteAnswered.refused n 5 _ (omega arith) (inr (inl f)) (late w (later (mark-not-slice w u) (here (u, f) refl (omega arith)))))
+      (λ w u n f. WriteAnswered.refused n 5 _ (omega arith) (inr (inl f)) (late w (later (mark-not-slice w u) (here (u, f) refl refl))))
       (λ w u f. WriteAnswered.refused 0 22 _ (omega arith) (inr (inr f))
-      (late w (later (mark-not-slice w u) (later (λ x. full-not-bad _ _ _ 0 f (x .1)) (here (u, f) refl (omega arith))))))
+      (late w (later (mark-not-slice w u) (later (λ x. full-not-bad h perm 0 f (x .1)) (here (u, f) refl refl)))))
       (λ w u n f lacking. WriteAnswered.refused n 21 _ (omega arith) (inl f) (late w (later (mark-not-slice w u)
-      (later (λ x. free-not-bad _ _ _ n f (x .1)) (later (λ x. free-not-full _ _ _ n f (x .1)) (here (u, lacking) refl (omega arith)))))))
-      (λ w u ψ n f q enough. rw (← q, sub-zero) (WriteAnswered.claimed n f (late w (later (mark-not-slice w u)
-      (later (λ x. free-not-bad _ _ _ n f (x .1)) (later (λ x. free-not-full _ _ _ n f (x .1)) (later (λ x. x .1 enough) none))))) u))
+      (later (λ x. free-not-bad h perm n f (x .1)) (later (λ x. free-not-full h perm n f (x .1)) (here (u, lacking) refl refl))))))
+      (λ w u ψ n f q enough. rw (← q) (WriteAnswered.claimed n f (late w (later (mark-not-slice w u)
+      (later (λ x. free-not-bad h perm n f (x .1)) (later (λ x. free-not-full h perm n f (x .1)) (later (λ x. x .1 enough) none))))) u))
 
 -- ---- opening
 
@@ -119,14 +119,14 @@ module _ (device : List ℕ) (g : Geometry) (key maps owners perm : List ℕ) wh
       room = mul-le-mul-right (g .p) (omega (arith, low .top))
 
       withTables-answered : (keys : List ℕ) → AllUnlocked device g k top keys → {l : Loaded}
-          → LoadEnds (g .p) (mapEntries g header keys) ((k + 1) * g .p) l → Opens (withTables g k keys l)
+          → LoadEnds (g .p) (mapEntries g header keys) ((k + 1) * g .p) l → Opens (withTables g perm k keys l)
       unfolding withTables noKeys
       withTables-answered keys all (loaded ms os holds) =
           OpenAnswered.served first k top _ low all (holds-sound (g .p) (mapEntries g header keys) ((k + 1) * g .p) ms os room holds) refl
       withTables-answered keys all (bad n l sound other out) = bad-entry first k top keys low all n l sound other out
       withTables-answered keys all (twice n l sound slice m m<n same) = slice-twice first k top keys low all n l sound slice m m<n same
 
-      withKeys-answered : {c : Chain} → ChainEnds device g k top c → Opens (withKeys g header k c)
+      withKeys-answered : {c : Chain} → ChainEnds device g k top c → Opens (withKeys g perm header k c)
       unfolding withKeys noKeys
       withKeys-answered (whole keys u) =
           withTables-answered (allKeys keys k) (allKeys-unlocked device g k top keys u)
@@ -134,7 +134,7 @@ module _ (device : List ℕ) (g : Geometry) (key maps owners perm : List ℕ) wh
       withKeys-answered (wrong-tag i vmk reached e) = header-tag first k top low i vmk reached e
       withKeys-answered (misfit i vmk text reached e f) = header-geometry first k top low i vmk text reached e f
 
-    withCell-answered : {c : Cell} → CellsEnd key (cellOf device) 15 c → Opens (withCell g header c)
+    withCell-answered : {c : Cell} → CellsEnd key (cellOf device) 15 c → Opens (withCell g perm header c)
     unfolding withCell noKeys
     withCell-answered (lowest k top low) =
         withKeys-answered k top (record { top = low .0; opens = low .1; below = low .2 }) (chain-ends device g k top ok long (low .0))

@@ -1,6 +1,6 @@
 -- What a call may come to: one case analysis for each call, cited by every theorem on runs. Assumes nothing.
-use Prim.Native.Nat.{ℕ, zero, suc, _-_, _<_}
-use mathlib.Core.Path.{_≡_, refl}
+use Prim.Native.Nat.{ℕ, zero, suc, _<_}
+use mathlib.Core.Path.{_≡_, refl, _∙_}
 use mathlib.Core.List.{List}
 use mathlib.Core.Logic.{⊎-elim}
 use native.Mathlib.Omega.{arith}
@@ -9,14 +9,15 @@ use Rattle.model.specs.declared.Search.{Search}
 use Rattle.model.specs.declared.Search.the-variants.{Free, Bad, Full}
 use Rattle.model.specs.Session.{Held, Outcome, geometry, sliceOf, offsetOf, unmapped, unless, idle}
 use Rattle.model.specs.Read.{readRefusal}
-use Rattle.model.specs.Write.{firstFree, startPlace, probesTo, WriteResult, rewritten, claimed, claimOutcome, writeRefusal, writeModel}
+use Rattle.model.specs.Search.{firstFree}
+use Rattle.model.specs.Write.{probesTo, WriteResult, rewritten, claimed, full, claimOutcome, writeRefusal, writeModel}
 use Rattle.model.specs.Close.{closeNeed, closeRefusal, CloseResult, closed, closeModel}
-use Rattle.model.specs.Conditions.{Enough, sliceAt, AllHeld, FirstFree, FirstBad}
+use Rattle.model.specs.Conditions.{Enough, sliceAt}
 use Rattle.model.proofs.Requests as requests
-use Rattle.guarantees.specs.Rules.{heldEntry, askedRules}
+use Rattle.guarantees.specs.Rules.{heldEntry, askedRules, FreeAt, BadAt, NoneFree}
 use Rattle.guarantees.proofs.Reflects.{ltb-reflects, choose-reflects, choose-refutes}
-use Rattle.guarantees.proofs.Chains.{None}
-use Rattle.guarantees.proofs.Orders.{short-refutes, earlyRules}
+use Rattle.guarantees.proofs.Chains.{None, leads-unlisted}
+use Rattle.guarantees.proofs.Orders.{short-refutes, earlyRules, write-leads}
 use Rattle.model.proofs.Searches.{Finds, firstFree-finds}
 
 -- The two ends of a chain of refusals.
@@ -78,50 +79,54 @@ module _ (n : ℕ) (h : Held) (i a : ℕ) (text perm tape : List ℕ) where
   abbrev probes : ℕ → ℕ
   probes place = probesTo (h .session) place
 
-  abbrev all : ℕ
-  all = geometry h .p - startPlace (h .session)
-
   -- Each case with all that is known of it.
   pub write-cases : (P : Outcome WriteResult → Type 0)
       → ((r : ℕ) → writeRefusalOf n h i a (length text) (length perm) ≡ suc r → P (refused (suc r) 0))
       → (Writable n h i a text perm → ψ₀ < geometry h .p → (Left 16 → ⊥) → P (refused 21 0))
       → (Writable n h i a text perm → ψ₀ < geometry h .p → Left 16 → P (rewritten h i ψ₀ j text tape))
-      → (Writable n h i a text perm → ψ₀ ≡ unmapped → (place : ℕ) → FirstBad (h .owners) (geometry h .p) perm place → P (refused 5 (probes place)))
-      → (Writable n h i a text perm → ψ₀ ≡ unmapped → AllHeld (h .owners) (geometry h .p) perm (length perm) → P (refused 22 all))
-      → (Writable n h i a text perm → ψ₀ ≡ unmapped → (place : ℕ) → FirstFree (h .owners) (geometry h .p) perm place → (Left (geometry h .b) → ⊥)
-      → P (refused 21 (probes place)))
-      → (Writable n h i a text perm → ψ₀ ≡ unmapped → (ψ place : ℕ) → FirstFree (h .owners) (geometry h .p) perm place → sliceAt perm place ≡ ψ
-      → Left (geometry h .b) → P (claimed h i σ j ψ place text tape))
+      → (Writable n h i a text perm → ψ₀ ≡ unmapped → (place : ℕ) → BadAt h perm place → P (refused 5 (probes place)))
+      → (Writable n h i a text perm → ψ₀ ≡ unmapped → NoneFree h perm → P (full h))
+      → (Writable n h i a text perm → ψ₀ ≡ unmapped → (place : ℕ) → FreeAt h perm place → (Left (geometry h .b) → ⊥) → P (refused 21 (probes place)))
+      → (Writable n h i a text perm → ψ₀ ≡ unmapped → (ψ place : ℕ) → FreeAt h perm place → sliceAt perm place ≡ ψ → Left (geometry h .b)
+      → P (claimed h i σ j ψ place text tape))
       → P (writeModel n h i a text perm tape)
   unfolding writeModel
-  write-cases P unfit re-short re bad full cl-short cl =
+  write-cases P unfit re-short re bad none cl-short cl =
       unless-cases P _ _ _ unfit
       (λ e. let w = requests.writeRefusal-none n (h .maps) (h .owners) (h .session) i a (length text) (length perm) e in
       choose-reflects P _ _ (ltb-reflects ψ₀ (geometry h .p))
       (λ l. choose-refutes P _ _ (short-refutes (length tape) (h .position) 16) (re-short w l) (re w l))
       (λ out. claims w (⊎-elim (λ u. u) (λ l. absurd (out l)) (w .asked .mapped)) search-of
-      (firstFree-finds (h .owners) (geometry h .p) perm)))
+      (firstFree-finds (h .owners) (geometry h .p) perm (h .session .start))))
     where
       search-of : Search
-      search-of = firstFree (h .owners) (geometry h .p) (startPlace (h .session)) perm
+      search-of = firstFree (h .owners) (geometry h .p) (h .session .start) perm
 
-      claims : Writable n h i a text perm → ψ₀ ≡ unmapped → (s : Search) → Finds (h .owners) (geometry h .p) perm s
+      claims : Writable n h i a text perm → ψ₀ ≡ unmapped → (s : Search) → Finds (h .owners) (geometry h .p) perm (h .session .start) s
           → P (claimOutcome h i σ j text tape s)
       claims w u (Bad place) f = bad w u place f
-      claims w u Full f = full w u f
+      claims w u Full f = none w u f
       claims w u (Free ψ place) f =
           choose-refutes P _ _ (short-refutes (length tape) (h .position) (geometry h .b)) (cl-short w u place (f .0)) (cl w u ψ place (f .0) (f .1))
 
-  -- The same where only what is stored matters.
+  -- 22 is not among the refusals before the search.
+  pub early-not-22 : writeRefusalOf n h i a (length text) (length perm) ≡ 22 → ⊥
+  early-not-22 =
+      leads-unlisted (write-leads n h i a (length text) (length perm))
+      (omega arith, (omega arith, (omega arith, (omega arith, (omega arith, (omega arith, (omega arith, (omega arith, tt)))))))) (omega arith)
+
+  -- The same where only what is stored and left matters: every refusal but 22 leaves what is held.
   pub write-stores : (P : Outcome WriteResult → Type 0)
-      → ((number count : ℕ) → P (refused number count))
+      → ((number count : ℕ) → (number ≡ 22 → ⊥) → P (refused number count))
+      → (Writable n h i a text perm → P (full h))
       → (Writable n h i a text perm → ψ₀ < geometry h .p → Left 16 → P (rewritten h i ψ₀ j text tape))
-      → (Writable n h i a text perm → ψ₀ ≡ unmapped → (ψ place : ℕ) → ψ < geometry h .p → getD (h .owners) ψ 0 ≡ 0 → Left (geometry h .b)
-      → P (claimed h i σ j ψ place text tape))
+      → (Writable n h i a text perm → ψ₀ ≡ unmapped → (ψ place : ℕ) → FreeAt h perm place → ψ < geometry h .p → getD (h .owners) ψ 0 ≡ 0
+      → Left (geometry h .b) → P (claimed h i σ j ψ place text tape))
       → P (writeModel n h i a text perm tape)
-  write-stores P none re cl =
-      write-cases P (λ r e. none (suc r) 0) (λ w l s. none 21 0) re (λ w u place f. none 5 (probes place)) (λ w u f. none 22 all)
-      (λ w u place f s. none 21 (probes place)) (λ w u ψ place f q enough. cl w u ψ place (rw q at (f .slice)) (rw q at (f .free)) enough)
+  write-stores P none filled re cl =
+      write-cases P (λ r e. none (suc r) 0 (λ q. early-not-22 (e ∙ q))) (λ w l s. none 21 0 (omega arith)) re
+      (λ w u place f. none 5 (probes place) (omega arith)) (λ w u f. filled w) (λ w u place f s. none 21 (probes place) (omega arith))
+      (λ w u ψ place f q enough. cl w u ψ place f (rw q at (f .slice)) (rw q at (f .free)) enough)
 
 -- ---- a close
 

@@ -1,6 +1,6 @@
 -- Chains of tests: the number that a chain gives is that of the first rule that holds. Assumes nothing.
 use Prim.Native.Nat.{ℕ, suc}
-use mathlib.Core.Path.{_≡_, refl, ap, _∙_}
+use mathlib.Core.Path.{_≡_, refl, sym, ap, _∙_}
 use mathlib.Core.Logic.{inl, inr}
 use mathlib.Core.Bool.{Bool, true, false, _||_}
 use mathlib.Core.List.{List, [], _∷_, _++_}
@@ -55,6 +55,17 @@ leads-zero none k = refl
 pub none-leads : (rs : List Rule) {ss : List Rule} {n c : ℕ} → None rs → Leads ss n c → Leads (rs ++ ss) n c
 none-leads [] k q = q
 none-leads (r ∷ rs) k q = later (k .0) (none-leads rs (k .1) q)
+
+-- A number that no rule has.
+abbrev pub Unlisted : ℕ → List Rule → Type 0
+Unlisted m [] = Unit
+Unlisted m (r ∷ rs) = (m ≡ r .number → ⊥) × Unlisted m rs
+
+-- A refusal by the rules has the number of one of them.
+pub leads-unlisted : {rs : List Rule} {m n c : ℕ} → Leads rs n c → Unlisted m rs → (m ≡ 0 → ⊥) → n ≡ m → ⊥
+leads-unlisted (here a e d) k ne q = k .0 (sym q ∙ e)
+leads-unlisted (later f l) k ne q = leads-unlisted l (k .1) ne q
+leads-unlisted none k ne q = ne (sym q)
 
 -- ---- chains of tests
 

@@ -13,6 +13,7 @@ pub mod Making
 pub mod Stored
 pub mod Unlocks
 pub mod Tables
+pub mod Permutations
 pub mod Opened
 pub mod Keys
 pub mod Answered
@@ -20,4 +21,5 @@ pub mod Point2
 pub mod Again
 pub mod Point3
 pub mod Points
+pub mod StartPlaces
 pub mod Blank

@@ -2,26 +2,29 @@
 use Prim.Native.Nat.{ℕ, zero, suc, _+_, _*_, _/_, _%_, _≤_, _<_}
 use mathlib.Core.Path.{_≡_, refl, sym, ap, _∙_, fun-ext}
 use mathlib.Core.List.{List, [], _++_}
-use mathlib.Core.Bool.{true}
-use mathlib.Core.Logic.{⊎-elim}
+use mathlib.Core.Logic.{inl, inr, ⊎-elim}
 use native.Mathlib.Omega.{arith}
 use native.Mathlib.Nat.{div-add-mod', mod-lt, mul-le-mul-right, div-lt-iff-lt-mul, le-of-suc-le-suc}
 use lib.ListN.{length, getD}
 use lib.Arith.{digits-div, digits-mod, digits-lt}
 use Rattle.gcm.specs.Gcm as gcm
 use Rattle.model.specs.declared.Geometry.{Geometry}
+use Rattle.model.specs.declared.Search.{Search}
+use Rattle.model.specs.declared.Search.the-variants.{Free, Bad, Full}
 use Rattle.model.specs.Geometry.{deviceLength, cellOf, headerOf, Allowed}
 use Rattle.model.specs.Session.{Held, held, keyIn, keyOf, unmapped, unless}
 use Rattle.model.specs.Opening.{Cell, At, NoCell, openCell, orNext, firstCell, openHeader, vekOf, vmkBelow, Chain, Keys, Broken, link, chain}
 use Rattle.model.specs.Opening.{storedEntry, mapEntries, Loaded, Tables, Spoilt, loadMaps, openRefusal, OpenTo, OpenOutcome}
-use Rattle.model.specs.Opening.{untouched, allKeys, withTables, withKeys, withCell, openModel}
+use Rattle.model.specs.Opening.{untouched, allKeys, openSession, withTables, withKeys, withCell, openModel}
+use Rattle.model.specs.Search.{firstFree, startPlace}
 use Rattle.model.specs.Conditions.{TablesFit, Names}
 use Rattle.model.proofs.Tests.{equal}
 use Rattle.model.proofs.Cells.{firstCell-lowest}
 use Rattle.model.proofs.Keys.{allKeys-length, allKeys-above}
+use Rattle.model.proofs.Searches.{Finds, firstFree-finds}
 use Rattle.model.proofs.Requests as requests
 use Rattle.guarantees.specs.Openings.{Lowest}
-use Rattle.guarantees.specs.Points.{Handed, Lent, opens, Maps, Opens}
+use Rattle.guarantees.specs.Points.{Handed, Lent, opens, Maps, StartsAt, Opens}
 use Rattle.guarantees.proofs.Reflects.{refutes-passed}
 use Rattle.guarantees.proofs.Chains.{leads-zero}
 use Rattle.guarantees.proofs.Orders.{missing-refutes, open-leads}
@@ -30,6 +33,7 @@ use Rattle.guarantees.proofs.Blocks.{same-slot}
 use Rattle.guarantees.proofs.Cases.{Stands}
 use Rattle.guarantees.proofs.Unlocks.{chain-unlocked}
 use Rattle.guarantees.proofs.Tables.{Holds, load-holds, load-same}
+use Rattle.guarantees.proofs.Permutations.{names-below}
 
 -- ---- the lowest cell that opens: no cell above it counts
 
@@ -121,7 +125,7 @@ module _ (device : List ℕ) (x : Handed) (l : Lent) (k : ℕ) where
         answer = OpenTo k;
         maps = s .maps;
         owners = s .owners;
-        session = record { geometry = g; k = k; keys = allKeys (s .keys) k; opened = true };
+        session = openSession g k (allKeys (s .keys) k) (s .owners) (x .perm);
       }
 
   abbrev pub heldBy : Served → Held
@@ -130,32 +134,33 @@ module _ (device : List ℕ) (x : Handed) (l : Lent) (k : ℕ) where
   pub served-is : (s : Served) → opens device x l ≡ openedBy s
   unfolding openModel withCell withKeys withTables
   served-is s =
-      ap (λ (r : ℕ). unless r (untouched (l .maps) (l .owners)) (withCell g header cell)) (s .accepted)
-      ∙ ap (withCell g header) (s .lowest)
-      ∙ ap (withKeys g header k) (s .headers)
-      ∙ ap (withTables g k (allKeys (s .keys) k)) (s .tables)
+      ap (λ (r : ℕ). unless r (untouched (l .maps) (l .owners)) (withCell g (x .perm) header cell)) (s .accepted)
+      ∙ ap (withCell g (x .perm) header) (s .lowest)
+      ∙ ap (withKeys g (x .perm) header k) (s .headers)
+      ∙ ap (withTables g (x .perm) k (allKeys (s .keys) k)) (s .tables)
 
   pub served : opens device x l .answer ≡ OpenTo k → Served
   unfolding openModel withCell withKeys withTables
   served e = top (openRefusalOf device x l) refl e
     where
       third : (n : ℕ) (vmk : List ℕ) → openRefusalOf device x l ≡ 0 → cell ≡ At n vmk → (keys : List ℕ) → chain g header n vmk [] ≡ Keys keys
-          → (t : Loaded) → loadMaps g header (allKeys keys n) n ≡ t → withTables g n (allKeys keys n) t .answer ≡ OpenTo k → Served
+          → (t : Loaded) → loadMaps g header (allKeys keys n) n ≡ t → withTables g (x .perm) n (allKeys keys n) t .answer ≡ OpenTo k → Served
       third n vmk a b keys c (Spoilt r) d f = let z : _≡_ {A = ℕ} 0 1 = cc in absurd (omega arith)
       third n vmk a b keys c (Tables m o) d f =
           let q : n ≡ k = cc in
           record { vmk = vmk; keys = keys; maps = m; owners = o; accepted = a; lowest = rw q at b; headers = rw q at c; tables = rw q at d }
 
       second : (n : ℕ) (vmk : List ℕ) → openRefusalOf device x l ≡ 0 → cell ≡ At n vmk → (c : Chain) → chain g header n vmk [] ≡ c
-          → withKeys g header n c .answer ≡ OpenTo k → Served
+          → withKeys g (x .perm) header n c .answer ≡ OpenTo k → Served
       second n vmk a b (Broken r) c f = let z : _≡_ {A = ℕ} 0 1 = cc in absurd (omega arith)
       second n vmk a b (Keys keys) c f = third n vmk a b keys c _ refl f
 
-      first : openRefusalOf device x l ≡ 0 → (c : Cell) → cell ≡ c → withCell g header c .answer ≡ OpenTo k → Served
+      first : openRefusalOf device x l ≡ 0 → (c : Cell) → cell ≡ c → withCell g (x .perm) header c .answer ≡ OpenTo k → Served
       first a NoCell b f = let z : _≡_ {A = ℕ} 0 1 = cc in absurd (omega arith)
       first a (At n vmk) b f = second n vmk a b _ refl f
 
-      top : (r : ℕ) → openRefusalOf device x l ≡ r → unless r (untouched (l .maps) (l .owners)) (withCell g header cell) .answer ≡ OpenTo k → Served
+      top : (r : ℕ) → openRefusalOf device x l ≡ r
+          → unless r (untouched (l .maps) (l .owners)) (withCell g (x .perm) header cell) .answer ≡ OpenTo k → Served
       top zero a f = first a _ refl f
       top (suc r) a f = let z : _≡_ {A = ℕ} 0 1 = cc in absurd (omega arith)
 
@@ -206,10 +211,25 @@ module _ (device : List ℕ) (x : Handed) (l : Lent) (k : ℕ) where
             none (u .0 / g .p) (omega arith)
             (u .0 % g .p, mod-lt (u .0) (served-taken .good .slices-least), ap (λ (y : ℕ). getD (s .maps) y 0) (div-add-mod' (u .0) (g .p)) ∙ u .2)
 
+    -- The first free place, or P: no place of the permutation names no slice.
+    pub served-start : StartsAt (s .owners) (g .p) (x .perm) (openedBy s .session .start)
+    served-start = go (firstFree (s .owners) (g .p) 0 (x .perm)) (firstFree-finds (s .owners) (g .p) (x .perm) 0)
+      where
+        names : Names (g .p) (x .perm)
+        names = served-taken .names
+
+        go : (found : Search) → Finds (s .owners) (g .p) (x .perm) 0 found → StartsAt (s .owners) (g .p) (x .perm) (startPlace (g .p) found)
+        go (Free ψ n) f = inl (f .0)
+        go (Bad n) f = absurd (omega (arith, f .bad, names-below (g .p) (x .perm) names n (f .inside)))
+        go Full f = inr (λ m from l. f m from (omega (arith, l, names .places)), refl)
+
+    pub served-place : openedBy s .session .start ≤ g .p
+    served-place = ⊎-elim (λ f. omega (arith, f .inside, served-taken .names .places)) (λ f. omega (arith, f .1)) served-start
+
     pub served-stands : Stands (length device) (heldBy s)
     served-stands =
         record {
-          usable = record { opened = refl; allowed = served-taken .good; top = le-of-suc-le-suc served-low };
+          usable = record { opened = refl; allowed = served-taken .good; top = le-of-suc-le-suc served-low; place = served-place };
           long = served-taken .long;
           tables = (table .maps-long, table .owners-long);
         }
@@ -243,6 +263,7 @@ module _ (device : List ℕ) (x : Handed) (l : Lent) (k : ℕ) where
           owner = λ i ψ hi hψ m. served-sound .apart .owner i ψ hi hψ (m .0, m .1, sym (served-entry i (m .0) hi (m .1)) ∙ m .2);
           free = λ ψ hψ none.
               served-sound .apart .free ψ hψ (λ i hi m. none i hi (m .0, m .1, served-entry i (m .0) hi (m .1) ∙ m .2));
+          start = served-start;
         }
 
 -- ---- an opening of another device that has the same cells and headers up to k

@@ -85,12 +85,15 @@ anyBad-refutes g maps (suc n) =
 -- ---- the orders
 
 usable-guards : (s : Session)
-    → Guards (λ rest. refuse (not (s .opened)) 20 (badGeometry 20 (s .geometry) (refuse (ltb 14 (s .k)) 20 rest))) 20 (Usable s)
+    → Guards (λ rest. refuse (not (s .opened)) 20 (badGeometry 20 (s .geometry)
+    (refuse (ltb 14 (s .k)) 20 (refuse (ltb (s .geometry .p) (s .start)) 20 rest)))) 20 (Usable s)
 usable-guards s =
-    guards-map (λ p. record { opened = p .0; allowed = p .1 .0; top = p .1 .1 }) (λ u. (u .opened, (u .allowed, u .top)))
+    guards-map (λ p. record { opened = p .0; allowed = p .1 .0; top = p .1 .1 .0; place = p .1 .1 .1 })
+    (λ u. (u .opened, (u .allowed, (u .top, u .place))))
     (guards-both (refuse-guards 20 (not-refutes (bool-reflects (s .opened))))
     (guards-both (badGeometry-guards 20 (s .geometry))
-    (refuse-guards 20 (ltb-refutes 14 (s .k)))))
+    (guards-both (refuse-guards 20 (ltb-refutes 14 (s .k)))
+    (refuse-guards 20 (ltb-refutes (s .geometry .p) (s .start))))))
 
 tables-guards : (g : Geometry) (maps owners : ℕ)
     → Guards (λ rest. refuse (not (eqb maps (15 * g .p))) 4 (refuse (not (eqb owners (g .p))) 4 rest)) 4 (TablesFit g maps owners)

@@ -5,22 +5,22 @@ use mathlib.Core.List.{List, [], _∷_}
 use mathlib.Core.Bool.{true}
 use mathlib.Core.Logic.{_⊎_, inl, inr, ⊎-elim}
 use native.Mathlib.Omega.{arith}
-use native.Mathlib.Nat.{sub-zero, div-add-mod', mod-lt, div-lt-iff-lt-mul}
+use native.Mathlib.Nat.{le-refl, div-add-mod', mod-lt, div-lt-iff-lt-mul}
 use lib.ListN.{length, getD, length-set}
 use borrow.Author.Tests.{eq-eqb, ne-eqb}
 use Rattle.refusals.specs.Numbers.{refuse}
 use Rattle.model.specs.declared.Geometry.{Geometry}
 use Rattle.model.specs.Parts.{part, overlay, patched}
 use Rattle.model.specs.Geometry.{sliceStart, ivStart, blockStart, Allowed}
-use Rattle.model.specs.Session.{Held, Outcome, geometry, keyOf, blockCount, sliceOf, offsetOf, unmapped, asked, idle}
+use Rattle.model.specs.Session.{Held, Outcome, geometry, keyOf, blockCount, sliceOf, offsetOf, unmapped, asked, idle, startingAt}
 use Rattle.model.specs.Read.{deciphered, blockOf, readRefusal, readModel, findModel}
-use Rattle.model.specs.Write.{WriteResult, rewritten, claimed, claimedBytes, writeRefusal, writeModel}
+use Rattle.model.specs.Write.{WriteResult, rewritten, claimed, full, claimedBytes, writeRefusal, writeModel}
 use Rattle.model.specs.Close.{CloseResult, closeModel}
 use Rattle.guarantees.specs.Runs.{State, Call, Reading, Finding, Writing, Closing, Writes, outcome, next, events, final, left}
 use Rattle.model.specs.Conditions.{Usable, EntryFits, Enough}
-use Rattle.guarantees.specs.Rules.{closeRules, heldEntry}
+use Rattle.guarantees.specs.Rules.{closeRules, heldEntry, FreeAt}
 use Rattle.guarantees.specs.Arrays.{Arrays, put, arraysAfter, arraysAfterAll, Fits, Unfit, ReadDue, FindDue, found, nowhere}
-use Rattle.guarantees.specs.Arrays.{WriteDue, rewrite-short, claim-short, no-slice, full, CloseDue, done, close-short, Due, AllDue}
+use Rattle.guarantees.specs.Arrays.{WriteDue, rewrite-short, claim-short, no-slice, CloseDue, done, close-short, Due, AllDue}
 use Rattle.model.proofs.Parts.{part-length, overlay-before, overlay-length, patched-length}
 use Rattle.model.proofs.Tests.{equal}
 use Rattle.model.proofs.Bounds.{sliceOf-lt, offsetOf-lt}
@@ -51,12 +51,12 @@ put-other arrays i a text j b ne = ⊎-elim (λ e. rw (eq-eqb j i e, ne-eqb b a 
 abbrev pub arraysOf : State → Arrays
 arraysOf st = blockOf (st .device) (st .held .maps) (st .held .session)
 
--- The session stays, the tables are sound, cells and headers stay but for the maps, and the arrays are what the device
+-- The session stays but for its start place, the tables are sound, cells and headers stay but for the maps, and the arrays are what the device
 -- deciphers to.
 pub record Open (first : State) (arrays : Arrays) (st : State) : Type 0 where
   pub stands : Stands (length (st .device)) (st .held)
   pub sound : SoundTables (st .held)
-  pub session : st .held .session ≡ first .held .session
+  pub session : st .held .session ≡ startingAt (st .held .session .start) (first .held .session)
   pub header : (a n : ℕ) → a + n ≤ sliceStart (geometry (st .held)) 0 → part a n (st .device) ≡ part a n (first .device)
   pub holds : (j b : ℕ) → OpenVolume (st .held) j → b < blockCount (geometry (st .held)) j → arrays j b ≡ arraysOf st j b
 
@@ -80,9 +80,9 @@ module _ (first : State) (device : List ℕ) (h : Held) (i a : ℕ) (text perm t
   abbrev Keeps : Outcome WriteResult → Type 0
   Keeps o = Kept first (arraysAfter arrays (Writes i a text perm tape (o .answer))) (left device o)
 
-  none : (number count : ℕ) → Keeps (idle h (WriteResult.Refused number count))
+  none : (number count : ℕ) → (number ≡ 22 → ⊥) → Keeps (idle h (WriteResult.Refused number count))
   unfolding arraysAfter patched
-  none number count = kept
+  none number count ne = kept
 
   module _ (w : Writable (length device) h i a text perm) where
     op : Open first arrays (record { device = device; held = h })
@@ -96,6 +96,26 @@ module _ (first : State) (device : List ℕ) (h : Held) (i a : ℕ) (text perm t
 
     hσ : σ < g .p
     hσ = sliceOf-lt g ok a (w .asked .address)
+
+    -- A session that was moved on in places.
+    starts : (n : ℕ) → n ≤ g .p → Usable (startingAt n (h .session))
+    starts n l = let u = w .stands .usable in record { opened = u .opened; allowed = u .allowed; top = u .top; place = l }
+
+    restarted : (n : ℕ) → startingAt n (h .session) ≡ startingAt n (first .held .session)
+    restarted n = ap (startingAt n) (op .session)
+
+    filled : Keeps (full h)
+    unfolding arraysAfter patched
+    filled live =
+        record {
+          stands = record { usable = starts (g .p) (le-refl (g .p)); long = w .stands .long; tables = w .stands .tables };
+          sound =
+              let a = op .sound .apart in
+              record { whole = op .sound .whole; apart = record { once = a .once; owner = a .owner; free = a .free } };
+          session = restarted (g .p);
+          header = op .header;
+          holds = op .holds;
+        }
 
     rewrites : heldEntry h i a < g .p → Enough (length tape) (h .position) 16 → Keeps (rewritten h i (heldEntry h i a) j₀ text tape)
     unfolding arraysAfter patched ivStart blockStart
@@ -140,7 +160,7 @@ module _ (first : State) (device : List ℕ) (h : Held) (i a : ℕ) (text perm t
             (λ e f. let q = op .sound .apart .once i σ j (sliceOf g b) (w .asked .volume) oj hσ (sliceOf-lt g ok b hb) l (sym e) in
             ne (sym (q .0)) (same-address g b a (sym (q .1)) f)))
 
-    module _ (ψ place : ℕ) (un : heldEntry h i a ≡ unmapped) (hψ : ψ < g .p) (free : getD (h .owners) ψ 0 ≡ 0)
+    module _ (ψ place : ℕ) (un : heldEntry h i a ≡ unmapped) (f : FreeAt h perm place) (hψ : ψ < g .p) (free : getD (h .owners) ψ 0 ≡ 0)
         (enough : Enough (length tape) (h .position) (g .b)) where
       abbrev o : Outcome WriteResult
       o = claimed h i σ j₀ ψ place text tape
@@ -205,19 +225,19 @@ module _ (first : State) (device : List ℕ) (h : Held) (i a : ℕ) (text perm t
           record {
             stands =
                 record {
-                  usable = w .stands .usable;
+                  usable = starts (place + 1) (omega (arith, f .inside, w .places));
                   long = overlay-length device _ _ ∙ w .stands .long;
                   tables = (length-set (h .maps) _ ψ ∙ w .stands .tables .0, length-set (h .owners) ψ (i + 1) ∙ w .stands .tables .1);
                 };
             sound = claimed-sound (length device) h i σ j₀ ψ place text tape (w .stands) (w .asked .volume) hσ (op .sound) hψ free un;
-            session = op .session;
+            session = restarted (place + 1);
             header = λ x n fits. overlay-before device (sliceStart g ψ) _ x n (omega (arith, slice-first g ψ)) ∙ op .header x n fits;
             holds = now-is;
           }
 
   -- A write keeps what the list needs, whatever it answers.
   write-keeps : Keeps (writeModel (length device) h i a text perm tape)
-  write-keeps = write-stores (length device) h i a text perm tape Keeps none rewrites (λ w u ψ place. claims w ψ place u)
+  write-keeps = write-stores (length device) h i a text perm tape Keeps none filled rewrites (λ w u ψ place. claims w ψ place u)
 
 close-keeps : (first : State) (device : List ℕ) (h : Held) (tape : List ℕ) (arrays : Arrays)
     → Kept first arrays (record { device = device; held = h }) → Kept first arrays (left device (closeModel (length device) h tape))
@@ -311,10 +331,10 @@ module _ (first : State) (st : State) (arrays : Arrays) (kept : Kept first array
       (λ r e. WriteDue.refused (suc r) (write-unfit (length perm) i a (length text) r e))
       (λ w l s. rewrite-short (fit w) l s)
       (λ w l s. WriteDue.rewritten (fit w) l s)
-      (λ w u place f. rw sub-zero (no-slice (fit w) u place f))
-      (λ w u f. rw sub-zero (full (fit w) u f))
-      (λ w u place f s. rw sub-zero (claim-short (fit w) u place f s))
-      (λ w u ψ place f q s. rw (← q, sub-zero) (WriteDue.claimed (fit w) u place f s))
+      (λ w u place f. no-slice (fit w) u place f)
+      (λ w u f. WriteDue.full (fit w) u f)
+      (λ w u place f s. claim-short (fit w) u place f s)
+      (λ w u ψ place f q s. rw (← q) (WriteDue.claimed (fit w) u place f s))
     where
       fit : Writable n h₀ i a text perm → Fits h₀ (length perm) i a (length text)
       fit w = asked-fits (length perm) i a (length text) (w .stands) (w .places) (w .asked)

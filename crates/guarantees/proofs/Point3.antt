@@ -13,12 +13,12 @@ use Rattle.model.specs.Parts.{choose, part, Patch, patched}
 use Rattle.model.specs.Geometry.{sliceStart, sliceSize, ivStart, blockStart, Allowed}
 use Rattle.model.specs.Session.{Held, Outcome, geometry, keyOf, sliceOf, offsetOf, unmapped, unless, idle}
 use Rattle.model.specs.Read.{blockOf, ReadResult, readModel, findModel}
-use Rattle.model.specs.Write.{WriteResult, rewritten, claimed, claimedBytes, writeModel}
+use Rattle.model.specs.Write.{WriteResult, rewritten, claimed, full, claimedBytes, writeModel}
 use Rattle.model.specs.Close.{mapPatches, closeModel}
 use Rattle.guarantees.specs.Runs.{State, Call, Reading, Finding, Writing, Closing, Event, Reads, Finds, Writes, Closes, asEvent, outcome, next}
 use Rattle.guarantees.specs.Runs.{final, events, positions, left, writtenByAll, Within}
 use Rattle.model.specs.Conditions.{Enough}
-use Rattle.guarantees.specs.Rules.{heldEntry}
+use Rattle.guarantees.specs.Rules.{heldEntry, FreeAt}
 use Rattle.guarantees.specs.Points.{EqualRuns}
 use Rattle.model.proofs.Parts.{part-length, part-agree, patched-length}
 use Rattle.model.proofs.Tests.{below}
@@ -112,8 +112,11 @@ module _ (s t : List ℕ) (h : Held) (alike : Alike (record { device = s; held =
 
   write-after : (i a : ℕ) (text perm tape : List ℕ) → After (writeModel (length s) h i a text perm tape)
   unfolding patched
-  write-after i a text perm tape = write-stores (length s) h i a text perm tape After (λ number count. alike) rewrites claims
+  write-after i a text perm tape = write-stores (length s) h i a text perm tape After (λ number count ne. alike) (λ w. filled) rewrites claims
     where
+      filled : After (full h)
+      filled = record { held = refl; long = alike .long; slices = alike .slices }
+
       rewrites : Writable (length s) h i a text perm → heldEntry h i a < g .p → Enough (length tape) (h .position) 16
           → After (rewritten h i (heldEntry h i a) (offsetOf g a) text tape)
       rewrites w l enough =
@@ -124,9 +127,9 @@ module _ (s t : List ℕ) (h : Held) (alike : Alike (record { device = s; held =
             slices = λ j τ oj hτ m p lo hi. patched-both p (o .patches) s t (alike .long) (alike .slices j τ oj hτ m p lo hi);
           }
 
-      claims : Writable (length s) h i a text perm → heldEntry h i a ≡ unmapped → (ψ place : ℕ) → ψ < g .p → getD (h .owners) ψ 0 ≡ 0
-          → Enough (length tape) (h .position) (g .b) → After (claimed h i (sliceOf g a) (offsetOf g a) ψ place text tape)
-      claims w un ψ place hψ free enough = record { held = refl; long = still (o .patches); slices = slices }
+      claims : Writable (length s) h i a text perm → heldEntry h i a ≡ unmapped → (ψ place : ℕ) → FreeAt h perm place → ψ < g .p
+          → getD (h .owners) ψ 0 ≡ 0 → Enough (length tape) (h .position) (g .b) → After (claimed h i (sliceOf g a) (offsetOf g a) ψ place text tape)
+      claims w un ψ place f hψ free enough = record { held = refl; long = still (o .patches); slices = slices }
         where
           o : Outcome WriteResult
           o = claimed h i (sliceOf g a) (offsetOf g a) ψ place text tape

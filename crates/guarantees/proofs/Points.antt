@@ -177,9 +177,10 @@ claim-free : (n : ℕ) (h : Held) (i a : ℕ) (text perm tape : List ℕ) (ψ pr
     → (h .session .opened ≡ true) × (ψ < geometry h .p) × (getD (h .owners) ψ 0 ≡ 0)
 claim-free n h i a text perm tape ψ probes =
     write-stores n h i a text perm tape (λ (o : Outcome WriteResult). o .answer ≡ WriteResult.Served (Claimed ψ) probes → Free)
-    (λ number count e. let z : _≡_ {A = ℕ} 0 1 = cc in absurd (omega arith))
+    (λ number count ne e. let z : _≡_ {A = ℕ} 0 1 = cc in absurd (omega arith))
+    (λ w e. let z : _≡_ {A = ℕ} 0 1 = cc in absurd (omega arith))
     (λ w l enough e. let z : _≡_ {A = ℕ} 0 1 = cc in absurd (omega arith))
-    (λ w u φ place hφ free enough e. let q : φ ≡ ψ = cc in (w .stands .usable .opened, rw q at hφ, rw q at free))
+    (λ w u φ place f hφ free enough e. let q : φ ≡ ψ = cc in (w .stands .usable .opened, rw q at hφ, rw q at free))
   where
     Free : Type 0
     Free = (h .session .opened ≡ true) × (ψ < geometry h .p) × (getD (h .owners) ψ 0 ≡ 0)

@@ -1,14 +1,15 @@
 -- What a run stores: the patches of its calls in order, on the written places and nowhere else. Assumes nothing.
-use Prim.Native.Nat.{ℕ, _+_}
+use Prim.Native.Nat.{ℕ, _+_, _-_}
 use mathlib.Core.Path.{_≡_, refl, sym, ap, ap₂, _∙_}
 use mathlib.Core.List.{List, [], _∷_, _++_}
 use native.Mathlib.Omega.{arith}
-use lib.ListN.{length, getD}
+use lib.ListN.{length, getD, set}
+use borrow.Author.Tests.{ne-eqb}
 use Rattle.ctr.proofs.Stream.{ctr-length}
 use Rattle.model.specs.declared.Geometry.{Geometry}
 use Rattle.model.specs.Parts.{part, Patch, patched}
 use Rattle.model.specs.Geometry.{sliceStart, ivStart, blockStart}
-use Rattle.model.specs.Session.{Held, Outcome, idle, geometry, keyOf, offsetOf, noKeys}
+use Rattle.model.specs.Session.{Held, Outcome, held, idle, geometry, keyOf, slot, sliceOf, offsetOf, noKeys, startingAt}
 use Rattle.model.specs.Write.{WriteResult, claimedBytes}
 use Rattle.model.specs.Close.{CloseResult}
 use Rattle.guarantees.specs.Runs.{State, Call, Reading, Finding, Writing, Closing, Event, Writes, Closes, asEvent, outcome, next, final}
@@ -44,7 +45,18 @@ step st (Writing i a text perm tape) =
     let iv = part (h .position) 16 tape in
     let ivs = part (h .position) (g .b) tape in
     write-stores (length (st .device)) h i a text perm tape (λ (o : Outcome WriteResult). Step h (asEvent (Writes i a text perm tape) o))
-    (λ number count. none refl refl refl)
+    (λ number count ne. none refl (rw (ne-eqb number 22 ne) refl) refl)
+    (λ w. record {
+      follows = record {
+        stored = refl;
+        held =
+            let moved : geometry h .p ≡ h .session .start + (geometry h .p - h .session .start) = omega (arith, w .stands .usable .place) in
+            ap (λ (n : ℕ). held (h .maps) (h .owners) (h .position) (startingAt n (h .session))) moved;
+      };
+      geo = refl;
+      top = refl;
+      ranges = refl;
+    })
     (λ w l enough. record {
       follows = record { stored = refl; held = refl };
       geo = refl;
@@ -56,8 +68,14 @@ step st (Writing i a text perm tape) =
           ∷ [])
           (part-length tape (h .position) 16 enough) (ctr-length (keyOf (h .session) i) iv text ∙ w .asked .size);
     })
-    (λ w u ψ place hψ free enough. record {
-      follows = record { stored = refl; held = refl };
+    (λ w u ψ place f hψ free enough. record {
+      follows = record {
+        stored = refl;
+        held =
+            let moved : place + 1 ≡ h .session .start + (place + 1 - h .session .start) = omega (arith, f .from) in
+            ap (λ (n : ℕ). held (set (h .maps) (slot g i (sliceOf g a)) ψ) (set (h .owners) ψ (i + 1)) (h .position + g .b)
+            (startingAt n (h .session))) moved;
+      };
       geo = refl;
       top = refl;
       ranges =

@@ -1,6 +1,6 @@
 -- Point 2, call by call: each open volume is an array of blocks, and each request has the answer that it is
 -- due. Assumes nothing.
-use Prim.Native.Nat.{ℕ, _+_, _≤_, _<_}
+use Prim.Native.Nat.{ℕ, _≤_, _<_}
 use mathlib.Core.Path.{_≡_}
 use mathlib.Core.List.{List, [], _∷_}
 use mathlib.Core.Bool.{true, _&&_}
@@ -13,8 +13,8 @@ use Rattle.model.specs.Read.{ReadResult}
 use Rattle.model.specs.Write.{WriteResult}
 use Rattle.model.specs.Close.{CloseResult}
 use Rattle.guarantees.specs.Runs.{State, Call, Event, Reads, Finds, Writes, Closes, outcome, next}
-use Rattle.model.specs.Conditions.{Enough, sliceAt, AllHeld, FirstFree, FirstBad}
-use Rattle.guarantees.specs.Rules.{heldEntry, blockIn}
+use Rattle.model.specs.Conditions.{Enough, sliceAt}
+use Rattle.guarantees.specs.Rules.{heldEntry, blockIn, FreeAt, BadAt, NoneFree, probesAt, allProbes}
 use Rattle.guarantees.specs.Effects.{closeBytes}
 
 -- Block a of volume i.
@@ -68,22 +68,23 @@ pub data FindDue (device : List ℕ) (h : Held) (i a : ℕ) : List ℕ → Type 
       → FindDue device h i a (blockIn device (geometry h) (heldEntry h i a) a)
   nowhere : (Fits h (geometry h .p) i a (geometry h .b) → heldEntry h i a ≡ unmapped) → FindDue device h i a []
 
--- A write that fits is served but where the tape is short (21), every slice held (22) or a place without slice met first (5).
+-- A write that fits is served but where the tape is short (21), every place from the start place on held (22) or a place without slice
+-- met there first (5); document 02, P2.
 pub data WriteDue (h : Held) (i a : ℕ) (text perm tape : List ℕ) : WriteResult → Type 0 where
   rewritten : Fits h (length perm) i a (length text) → heldEntry h i a < geometry h .p → Enough (length tape) (h .position) 16
       → WriteDue h i a text perm tape (WriteResult.Served (Rewritten (heldEntry h i a)) 0)
   rewrite-short : Fits h (length perm) i a (length text) → heldEntry h i a < geometry h .p → (Enough (length tape) (h .position) 16 → ⊥)
       → WriteDue h i a text perm tape (WriteResult.Refused 21 0)
-  claimed : Fits h (length perm) i a (length text) → heldEntry h i a ≡ unmapped → (n : ℕ) → FirstFree (h .owners) (geometry h .p) perm n
+  claimed : Fits h (length perm) i a (length text) → heldEntry h i a ≡ unmapped → (n : ℕ) → FreeAt h perm n
       → Enough (length tape) (h .position) (geometry h .b)
-      → WriteDue h i a text perm tape (WriteResult.Served (Claimed (sliceAt perm n)) (n + 1))
-  claim-short : Fits h (length perm) i a (length text) → heldEntry h i a ≡ unmapped → (n : ℕ) → FirstFree (h .owners) (geometry h .p) perm n
+      → WriteDue h i a text perm tape (WriteResult.Served (Claimed (sliceAt perm n)) (probesAt h n))
+  claim-short : Fits h (length perm) i a (length text) → heldEntry h i a ≡ unmapped → (n : ℕ) → FreeAt h perm n
       → (Enough (length tape) (h .position) (geometry h .b) → ⊥)
-      → WriteDue h i a text perm tape (WriteResult.Refused 21 (n + 1))
-  no-slice : Fits h (length perm) i a (length text) → heldEntry h i a ≡ unmapped → (n : ℕ) → FirstBad (h .owners) (geometry h .p) perm n
-      → WriteDue h i a text perm tape (WriteResult.Refused 5 (n + 1))
-  full : Fits h (length perm) i a (length text) → heldEntry h i a ≡ unmapped → AllHeld (h .owners) (geometry h .p) perm (length perm)
-      → WriteDue h i a text perm tape (WriteResult.Refused 22 (geometry h .p))
+      → WriteDue h i a text perm tape (WriteResult.Refused 21 (probesAt h n))
+  no-slice : Fits h (length perm) i a (length text) → heldEntry h i a ≡ unmapped → (n : ℕ) → BadAt h perm n
+      → WriteDue h i a text perm tape (WriteResult.Refused 5 (probesAt h n))
+  full : Fits h (length perm) i a (length text) → heldEntry h i a ≡ unmapped → NoneFree h perm
+      → WriteDue h i a text perm tape (WriteResult.Refused 22 (allProbes h))
   refused : (r : ℕ) → Unfit h (length perm) i a (length text) r → WriteDue h i a text perm tape (WriteResult.Refused r 0)
 
 -- A close of an open session is served but where the tape is short (21).

@@ -1,6 +1,6 @@
 -- What each call stores on the device and what is held after it, from the request and its answer alone (document 01, "Write",
--- "Close", and "Two sticks compared": written places hold the bytes of the last call that wrote there). The words are the
--- document's and not the model's. Assumes nothing.
+-- "Close" and "Two sticks compared": written places hold the bytes of the last call that wrote there; document 02, P2). The words are
+-- the documents' and not the model's. Assumes nothing.
 use Prim.Native.Nat.{ℕ, zero, suc, _+_, _*_}
 use mathlib.Core.Path.{_≡_}
 use mathlib.Core.List.{List, [], _∷_, _++_}
@@ -9,6 +9,7 @@ use lib.ListN.{getD, set, replicate}
 use lib.Dec.{eqb}
 use Rattle.ctr.specs.CounterMode.{ctr}
 use Rattle.model.specs.declared.Geometry.{Geometry}
+use Rattle.model.specs.declared.Session.{Session}
 use Rattle.model.specs.declared.Change.the-variants.{Claimed, Rewritten}
 use Rattle.model.specs.Parts.{choose, part, joined, Patch}
 use Rattle.model.specs.Geometry.{perBlock, mapBlocks, fourBytes, mapStart, sliceStart, ivStart, blockStart}
@@ -29,8 +30,17 @@ closeBytes h = 16 * mapBlocks (geometry h) * (h .session .k + 1)
 
 -- ---- what is held
 
--- A rewrite draws 16 tape bytes. A claim draws B, and sets its entry and its owner. A close draws 16 for each map block and leaves
--- marks, owners and keys 0, and a closed session with its geometry and k. Nothing else changes what is held.
+-- A session with another start place, and one whose start place is moved on by so many places.
+abbrev pub withStart : Session → (start : ℕ) → Session
+withStart s start = record { geometry = s .geometry; k = s .k; keys = s .keys; opened = s .opened; start = start }
+
+abbrev pub movedOn : Session → (places : ℕ) → Session
+movedOn s places = withStart s (s .start + places)
+
+-- A rewrite draws 16 tape bytes. A claim draws B, sets its entry and its owner, and moves the start place past the places that it
+-- looked at, to the claimed place plus one; a 22 moves it in the same way, to P (`Sets` in StartPlaces; document 02, P2). No other
+-- refusal changes anything. A close draws 16 for each map block and leaves marks, owners and keys 0, and a closed session with its
+-- geometry, k and start place. Nothing else changes what is held.
 unfoldable pub heldAfter : Held → Event → Held
 heldAfter h (Writes i a text perm tape (WriteResult.Served (Rewritten ψ) probes)) =
     record { maps = h .maps; owners = h .owners; position = h .position + 16; session = h .session }
@@ -39,15 +49,17 @@ heldAfter h (Writes i a text perm tape (WriteResult.Served (Claimed ψ) probes))
       maps = set (h .maps) (slot (geometry h) i (sliceOf (geometry h) a)) ψ;
       owners = set (h .owners) ψ (i + 1);
       position = h .position + geometry h .b;
-      session = h .session;
+      session = movedOn (h .session) probes;
     }
-heldAfter h (Writes i a text perm tape (WriteResult.Refused n probes)) = h
+heldAfter h (Writes i a text perm tape (WriteResult.Refused n probes)) =
+    choose (eqb n 22) (record { maps = h .maps; owners = h .owners; position = h .position; session = movedOn (h .session) probes }) h
 heldAfter h (Closes tape CloseResult.Closed) =
     record {
       maps = replicate (15 * geometry h .p) unmapped;
       owners = replicate (geometry h .p) 0;
       position = h .position + closeBytes h;
-      session = record { geometry = geometry h; k = h .session .k; keys = replicate 480 0; opened = false };
+      session =
+          record { geometry = geometry h; k = h .session .k; keys = replicate 480 0; opened = false; start = h .session .start };
     }
 heldAfter h (Closes tape (CloseResult.Refused n)) = h
 heldAfter h (Reads i a room r) = h

@@ -5,3 +5,4 @@ pub mod Making
 pub mod Effects
 pub mod Arrays
 pub mod Points
+pub mod StartPlaces

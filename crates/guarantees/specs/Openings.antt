@@ -59,7 +59,7 @@ refusedLeaving n maps owners =
       answer = NotOpened n;
       maps = maps;
       owners = owners;
-      session = record { geometry = record { b = 0; s = 0; p = 0 }; k = 0; keys = replicate 480 0; opened = false };
+      session = record { geometry = record { b = 0; s = 0; p = 0 }; k = 0; keys = replicate 480 0; opened = false; start = 0 };
     }
 
 -- By 6 to 10: 15 × P entries that are the mark, and P owners 0.

@@ -12,14 +12,14 @@ use Rattle.model.specs.declared.Change.the-variants.{Claimed, Rewritten}
 use Rattle.model.specs.Parts.{part, patched}
 use Rattle.model.specs.Geometry.{Allowed, deviceLength, cellOf, headerOf, sliceStart, sliceSize}
 use Rattle.model.specs.Session.{Held, held, geometry, keyIn, keyOf, blockCount, entry, entryOf, sliceOf, offsetOf, unmapped}
-use Rattle.model.specs.Conditions.{TablesFit, Enough, FirstFree, Names, sliceAt}
+use Rattle.model.specs.Conditions.{TablesFit, Enough, AllHeld, FirstFree, Names, sliceAt}
 use Rattle.model.specs.Opening.{OpenOutcome, OpenTo, openModel, storedEntry}
 use Rattle.model.specs.Read.{ReadResult, Filled, readModel, findModel, deciphered}
 use Rattle.model.specs.Write.{WriteResult, writeModel}
 use Rattle.model.specs.Close.{CloseResult, closeModel}
 use Rattle.model.specs.Format.{FormatResult, Formatted, formatModel}
 use Rattle.guarantees.specs.Runs.{State, Call, Writing, Closing, Writes, Closes, outcome, next, final, events, positions, writtenByAll, Within}
-use Rattle.guarantees.specs.Rules.{First, readRules, writeRules, closeRules, formatTape, SearchEnds, heldEntry, ivIn, blockIn}
+use Rattle.guarantees.specs.Rules.{First, readRules, writeRules, closeRules, formatTape, SearchEnds, FreeAt, probesAt, heldEntry, ivIn, blockIn}
 use Rattle.guarantees.specs.Openings.{Lowest, Unlocked, OpenAnswered}
 use Rattle.guarantees.specs.Making.{FormatAnswered}
 use Rattle.guarantees.specs.Effects.{heldAfterAll, storedByAll, Follows}
@@ -48,15 +48,16 @@ pub data FindAnswered (device maps owners : List ℕ) (s : Session) (i a : ℕ) 
   refused : (n : ℕ) → (n ≡ 0 → ⊥) → First (readRules (length device) maps owners s i a (s .geometry .b)) n 0
       → FindAnswered device maps owners s i a []
 
--- A write rewrites the slice that is mapped, with 0 places looked at, or claims the slice at the first free place, with that place
--- plus one; or it is refused by the first rule that applies, with the places looked at. place is where its search would end.
+-- A write rewrites the slice that is mapped, with 0 places looked at, or claims the slice at the first free place from the start place
+-- on, with the places from there up to it; or it is refused by the first rule that applies, with the places looked at. place is where
+-- its search would end.
 pub data WriteAnswered (device : ℕ) (h : Held) (i a : ℕ) (text perm tape : List ℕ) : WriteResult → Type 0 where
-  rewritten : (place : ℕ) → SearchEnds (h .owners) (geometry h .p) perm place → First (writeRules device h i a text perm tape place) 0 0
+  rewritten : (place : ℕ) → SearchEnds h perm place → First (writeRules device h i a text perm tape place) 0 0
       → heldEntry h i a < geometry h .p → WriteAnswered device h i a text perm tape (WriteResult.Served (Rewritten (heldEntry h i a)) 0)
-  claimed : (place : ℕ) → FirstFree (h .owners) (geometry h .p) perm place → First (writeRules device h i a text perm tape place) 0 0
+  claimed : (place : ℕ) → FreeAt h perm place → First (writeRules device h i a text perm tape place) 0 0
       → heldEntry h i a ≡ unmapped
-      → WriteAnswered device h i a text perm tape (WriteResult.Served (Claimed (sliceAt perm place)) (place + 1))
-  refused : (place n probes : ℕ) → (n ≡ 0 → ⊥) → SearchEnds (h .owners) (geometry h .p) perm place
+      → WriteAnswered device h i a text perm tape (WriteResult.Served (Claimed (sliceAt perm place)) (probesAt h place))
+  refused : (place n probes : ℕ) → (n ≡ 0 → ⊥) → SearchEnds h perm place
       → First (writeRules device h i a text perm tape place) n probes → WriteAnswered device h i a text perm tape (WriteResult.Refused n probes)
 
 -- A close is served, or refused by the first rule that applies.
@@ -77,7 +78,8 @@ pub record Point1 : Type 0 where
   pub closes : (device : ℕ) (h : Held) (tape : List ℕ) → CloseAnswered device h tape (closeModel device h tape .answer)
   pub formats : (device : ℕ) (g : Geometry) (n : ℕ) (keys tape : List ℕ) (position : ℕ)
       → FormatAnswered device g n keys tape position (formatModel device g n keys tape position)
-  -- What each request stores and leaves, in any session, also one that no opening gave: refused, nothing.
+  -- What each request stores and leaves, in any session, also one that no opening gave. Refused, it changes nothing, with one exception:
+  -- a 22 moves the session's start place to P (document 02, P2).
   pub follows : (st : State) (c : Call) → Follows (st .held) (outcome st c)
 
 -- ---- a served opening
@@ -119,7 +121,11 @@ firstArrays device x l i a =
 abbrev pub Maps : (entries : ℕ → ℕ → ℕ) → (p i ψ : ℕ) → Type 0
 Maps entries p i ψ = (σ : ℕ) × (σ < p) × (entries i σ ≡ ψ)
 
--- What a served opening leaves: an open session, and the tables of these entries.
+-- The start place is the first free place of a permutation, or P where none is free (document 02, P2).
+abbrev pub StartsAt : (owners : List ℕ) → (p : ℕ) → (perm : List ℕ) → (start : ℕ) → Type 0
+StartsAt owners p perm start = FirstFree owners p perm 0 start ⊎ (AllHeld owners p perm 0 p × (start ≡ p))
+
+-- What a served opening leaves: an open session with its start place, and the tables of these entries.
 pub record Opens (x : Handed) (k : ℕ) (entries : ℕ → ℕ → ℕ) (h : Held) : Type 0 where
   pub opened : h .session .opened ≡ true
   pub same : geometry h ≡ x .geometry
@@ -133,6 +139,7 @@ pub record Opens (x : Handed) (k : ℕ) (entries : ℕ → ℕ → ℕ) (h : Hel
   pub above : (i σ : ℕ) → k < i → i < 15 → σ < x .geometry .p → entry (h .maps) (geometry h) i σ ≡ unmapped
   pub owner : (i ψ : ℕ) → i ≤ k → ψ < x .geometry .p → Maps entries (x .geometry .p) i ψ → getD (h .owners) ψ 0 ≡ i + 1
   pub free : (ψ : ℕ) → ψ < x .geometry .p → ((i : ℕ) → i ≤ k → Maps entries (x .geometry .p) i ψ → ⊥) → getD (h .owners) ψ 0 ≡ 0
+  pub start : StartsAt (h .owners) (x .geometry .p) (x .perm) (h .session .start)
 
 -- ---- point 2: one run
 

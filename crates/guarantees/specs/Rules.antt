@@ -1,7 +1,7 @@
 -- Point 1 (README.md, "What is proved"): the listed refusals of each call in their listed order, each with its condition
--- (document 01, "Refused for ..", and the orders of the calls; document 02, P1). The conditions are the documents', in their own words
+-- (document 01, "Refused for ..", and the orders of the calls; document 02, P1 and P2). The conditions are the documents', in their own words
 -- and not the model's. Assumes nothing.
-use Prim.Native.Nat.{ℕ, _+_, _*_, _≤_, _<_}
+use Prim.Native.Nat.{ℕ, _+_, _-_, _*_, _≤_, _<_}
 use mathlib.Core.Path.{_≡_}
 use mathlib.Core.Logic.{_⊎_}
 use mathlib.Core.List.{List, [], _∷_, _++_}
@@ -40,9 +40,27 @@ ivIn device g ψ a = part (ivStart g ψ (offsetOf g a)) 16 device
 abbrev pub blockIn : List ℕ → Geometry → (ψ a : ℕ) → List ℕ
 blockIn device g ψ a = part (blockStart g ψ (offsetOf g a)) (g .b) device
 
--- Place n is where the search of a claim ends: the first free place, or the first that names no slice; any where all are held.
-abbrev pub SearchEnds : (owners : List ℕ) → (p : ℕ) → (perm : List ℕ) → (n : ℕ) → Type 0
-SearchEnds owners p perm n = FirstFree owners p perm n ⊎ FirstBad owners p perm n ⊎ AllHeld owners p perm (length perm)
+-- From the start place on, place n is the first free one, or the first that names no slice, or all are held.
+abbrev pub FreeAt : Held → (perm : List ℕ) → (n : ℕ) → Type 0
+FreeAt h perm n = FirstFree (h .owners) (geometry h .p) perm (h .session .start) n
+
+abbrev pub BadAt : Held → (perm : List ℕ) → (n : ℕ) → Type 0
+BadAt h perm n = FirstBad (h .owners) (geometry h .p) perm (h .session .start) n
+
+abbrev pub NoneFree : Held → (perm : List ℕ) → Type 0
+NoneFree h perm = AllHeld (h .owners) (geometry h .p) perm (h .session .start) (length perm)
+
+-- Place n is where the search of a claim ends; any where all are held.
+abbrev pub SearchEnds : Held → (perm : List ℕ) → (n : ℕ) → Type 0
+SearchEnds h perm n = FreeAt h perm n ⊎ BadAt h perm n ⊎ NoneFree h perm
+
+-- The places looked at where the search ends at place n: those from the start place up to it, that one included.
+abbrev pub probesAt : Held → (n : ℕ) → ℕ
+probesAt h n = n + 1 - h .session .start
+
+-- And where it finds none free: all from the start place on.
+abbrev pub allProbes : Held → ℕ
+allProbes h = geometry h .p - h .session .start
 
 -- ---- the orders
 
@@ -93,16 +111,16 @@ abbrev pub readRules : (device : ℕ) → (maps owners : List ℕ) → Session �
 readRules device maps owners s i a room = standingRules device (length maps) (length owners) s ++ askedRules maps s i a room
 
 -- Write: 20, 2, 4, 5 (length), 11, 12, 13, 9; then 21 for a rewrite, and for a claim 5 at place n or 22, then 21, with the
--- places looked at.
+-- places looked at, which are those from the start place on (document 02, P2).
 abbrev pub writeRules : (device : ℕ) → Held → (i a : ℕ) → (text perm tape : List ℕ) → (n : ℕ) → List Rule
 writeRules device h i a text perm tape n =
     standingRules device (length (h .maps)) (length (h .owners)) (h .session)
     ++ (rule 5 (length perm ≡ geometry h .p → ⊥)
     ∷ (askedRules (h .maps) (h .session) i a (length text)
     ++ (rule 21 ((heldEntry h i a < geometry h .p) × (Enough (length tape) (h .position) 16 → ⊥))
-    ∷ record { number = 5; probes = n + 1; holds = (heldEntry h i a ≡ unmapped) × FirstBad (h .owners) (geometry h .p) perm n }
-    ∷ record { number = 22; probes = geometry h .p; holds = (heldEntry h i a ≡ unmapped) × AllHeld (h .owners) (geometry h .p) perm (length perm) }
-    ∷ record { number = 21; probes = n + 1; holds = (heldEntry h i a ≡ unmapped) × (Enough (length tape) (h .position) (geometry h .b) → ⊥) }
+    ∷ record { number = 5; probes = probesAt h n; holds = (heldEntry h i a ≡ unmapped) × BadAt h perm n }
+    ∷ record { number = 22; probes = allProbes h; holds = (heldEntry h i a ≡ unmapped) × NoneFree h perm }
+    ∷ record { number = 21; probes = probesAt h n; holds = (heldEntry h i a ≡ unmapped) × (Enough (length tape) (h .position) (geometry h .b) → ⊥) }
     ∷ [])))
 
 -- Close: 20, 2, 4, then 9 for a bad entry in rows 0 to k, then 21.

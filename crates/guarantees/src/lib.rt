@@ -1,6 +1,7 @@
 // The guarantees: the three points (README.md, "What is proved") as theorems about the model, points 2 and 3 about lists of calls.
 // Each function here runs nothing; its `ensures` is the statement that the check has to prove.
 ghost use Rattle.guarantees.specs.Points.{Point1, Points23, FormatPoints, NoSliceTwice};
+ghost use Rattle.guarantees.specs.StartPlaces.{StartPlaces};
 
 // Point 1: any call with any arguments is served or refused by the first listed refusal that applies, and what it stores and
 // leaves follows from its answer.
@@ -16,6 +17,13 @@ pub fn points_two_and_three()
 // Formatting: the device opens with each of its keys to volumes of zeros, and points 2 and 3 hold from there on.
 pub fn formatted_sticks()
     ensures { λ r. ⌜ FormatPoints ⌝ }
+{}
+
+// The start place: while every write is handed the opening's permutation, no slice at an earlier place is free, and a claim takes what it
+// would take from place 0 on; with any permutations, the places looked at over one session, claims refused by 5 or 21 left out, are at
+// most P.
+pub fn start_places()
+    ensures { λ r. ⌜ StartPlaces ⌝ }
 {}
 
 // The accident of the case: over every list of calls no slice is held twice, and a claim takes a slice that nobody holds.

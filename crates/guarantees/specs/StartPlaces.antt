@@ -1,0 +1,98 @@
+-- The start place of a session (document 02, P2). While no slice at an earlier place is free, a claim takes the slice that it would have
+-- taken from place 0 on, and that holds while session, tables and permutation pass on untouched; and over one session, whatever
+-- permutations its calls are handed, the places looked at, claims refused by 5 or 21 left out, are at most P. Assumes nothing.
+use Prim.Native.Nat.{ℕ, _+_, _≤_}
+use mathlib.Core.Path.{_≡_}
+use mathlib.Core.List.{List, [], _∷_}
+use mathlib.Core.Bool.{true, _||_}
+use lib.ListN.{length}
+use lib.Dec.{eqb}
+use Rattle.model.specs.declared.Change.the-variants.{Claimed}
+use Rattle.model.specs.Parts.{choose}
+use Rattle.model.specs.Session.{Held, Outcome, held, geometry}
+use Rattle.model.specs.Conditions.{AllHeld, sliceAt}
+use Rattle.model.specs.Search.{firstFree}
+use Rattle.model.specs.Opening.{OpenTo}
+use Rattle.model.specs.Write.{WriteResult, writeModel}
+use Rattle.guarantees.specs.Runs.{State, Call, Reading, Finding, Writing, Closing, Event, Reads, Finds, Writes, Closes, final, events}
+use Rattle.guarantees.specs.Rules.{FreeAt}
+use Rattle.guarantees.specs.Effects.{withStart}
+use Rattle.guarantees.specs.Points.{Handed, Lent, opens, begin}
+
+-- ---- one write, in any session
+
+-- A claim sets the start place to the claimed place plus one, and a 22 sets it to P.
+pub record Sets (h : Held) (perm : List ℕ) (o : Outcome WriteResult) : Type 0 where
+  pub claim : (ψ probes : ℕ) → o .answer ≡ WriteResult.Served (Claimed ψ) probes
+      → (n : ℕ) × FreeAt h perm n × (sliceAt perm n ≡ ψ) × (o .held .session .start ≡ n + 1)
+  pub full : (probes : ℕ) → o .answer ≡ WriteResult.Refused 22 probes → o .held .session .start ≡ geometry h .p
+
+-- No slice at a place before the start place is free.
+abbrev pub NoneBefore : Held → (perm : List ℕ) → Type 0
+NoneBefore h perm = AllHeld (h .owners) (geometry h .p) perm 0 (h .session .start)
+
+-- What is held, with a start place of 0.
+abbrev pub fromFirst : Held → Held
+fromFirst h = held (h .maps) (h .owners) (h .position) (withStart (h .session) 0)
+
+-- The answer of a write without its count.
+abbrev pub uncounted : WriteResult → WriteResult
+uncounted (WriteResult.Served change probes) = WriteResult.Served change 0
+uncounted (WriteResult.Refused n probes) = WriteResult.Refused n 0
+
+-- Two writes answer alike but for the count, store the same bytes, and leave the same but for the start place.
+pub record SameWrite (o o′ : Outcome WriteResult) : Type 0 where
+  pub answered : uncounted (o .answer) ≡ uncounted (o′ .answer)
+  pub stored : o .patches ≡ o′ .patches
+  pub mapped : o .held .maps ≡ o′ .held .maps
+  pub owned : o .held .owners ≡ o′ .held .owners
+  pub moved : o .held .position ≡ o′ .held .position
+  pub handed : withStart (o .held .session) 0 ≡ withStart (o′ .held .session) 0
+
+-- ---- lists of calls
+
+-- Every write of the list is handed this permutation.
+unfoldable pub OnePermutation : (perm : List ℕ) → List Call → Type 0
+OnePermutation perm [] = Unit
+OnePermutation perm (Writing i a text other tape ∷ cs) = (other ≡ perm) × OnePermutation perm cs
+OnePermutation perm (Reading i a room ∷ cs) = OnePermutation perm cs
+OnePermutation perm (Finding i a ∷ cs) = OnePermutation perm cs
+OnePermutation perm (Closing tape ∷ cs) = OnePermutation perm cs
+
+-- The places that a claim looked at; one that is refused by 5 or 21 is left out.
+abbrev pub counted : Event → ℕ
+counted (Writes i a text perm tape (WriteResult.Served change probes)) = probes
+counted (Writes i a text perm tape (WriteResult.Refused n probes)) = choose (eqb n 5 || eqb n 21) 0 probes
+counted (Reads i a room r) = 0
+counted (Finds i a bytes) = 0
+counted (Closes tape r) = 0
+
+-- Those of a list together.
+unfoldable pub countedAll : List Event → ℕ
+countedAll [] = 0
+countedAll (e ∷ es) = counted e + countedAll es
+
+-- The places looked at are at most P, which is document 02's sentence; for the start place moves on by just these, and never past P.
+pub record Bounded (st : State) (p : ℕ) (cs : List Call) : Type 0 where
+  pub most : countedAll (events st cs) ≤ p
+  pub adds-up : final st cs .held .session .start ≡ st .held .session .start + countedAll (events st cs)
+  pub inside : final st cs .held .session .start ≤ p
+
+-- ---- together
+
+pub record StartPlaces : Type 0 where
+  -- What a write sets the start place to.
+  pub sets : (device : ℕ) (h : Held) (i a : ℕ) (text perm tape : List ℕ) → Sets h perm (writeModel device h i a text perm tape)
+  -- While no slice at an earlier place is free, the search from the start place on finds what the search from place 0 on finds, and a
+  -- write does what it would have done from place 0 on.
+  pub found : (owners : List ℕ) (p : ℕ) (perm : List ℕ) (start : ℕ) → start ≤ length perm → AllHeld owners p perm 0 start
+      → firstFree owners p start perm ≡ firstFree owners p 0 perm
+  pub same : (device : ℕ) (h : Held) (i a : ℕ) (text perm tape : List ℕ) → h .session .start ≤ geometry h .p → NoneBefore h perm
+      → SameWrite (writeModel device h i a text perm tape) (writeModel device (fromFirst h) i a text perm tape)
+  -- That holds from an opening on, while its permutation passes on and the session is open.
+  pub none-before : (s : List ℕ) (x : Handed) (l : Lent) (k : ℕ) → opens s x l .answer ≡ OpenTo k
+      → (cs : List Call) → OnePermutation (x .perm) cs → final (begin s x l) cs .held .session .opened ≡ true
+      → NoneBefore (final (begin s x l) cs .held) (x .perm)
+  -- The bound, whatever permutation each call is handed.
+  pub bounded : (s : List ℕ) (x : Handed) (l : Lent) (k : ℕ) → opens s x l .answer ≡ OpenTo k
+      → (cs : List Call) → Bounded (begin s x l) (x .geometry .p) cs
