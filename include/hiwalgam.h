@@ -7,8 +7,8 @@
  *
  * Every function takes any arguments and returns HIWALGAM_SERVED or the first refusal that applies, in the
  * order in which its comment lists them. A refused call changes nothing that it was lent, but for the tables
- * and the session of an opening and the answer of a write, as said there. No function keeps anything
- * between two calls.
+ * and the session of an opening, the answer of a write, and the session's start place at a write's 22, as said
+ * there. No function keeps anything between two calls.
  *
  * What the caller has to keep to, everywhere:
  *
@@ -19,7 +19,8 @@
  * - NULL may be passed with length 0, which is then judged as any other length. The tape position is never NULL.
  * - The buffers of one call do not overlap, but for those that are const.
  * - One session at a time: from an opening to its close nothing but these calls alters device, tables, tape
- *   position and session. Tape bytes are random, and none is used twice.
+ *   position and session, and each write is handed the permutation of the opening. Tape bytes are random, and
+ *   none is used twice.
  * - The platform is x86-64 Linux: 64-bit size_t, numbers with the least significant byte first. A call takes
  *   up to 16 KiB of stack.
  *
@@ -55,7 +56,7 @@ enum hiwalgam_answer {
     HIWALGAM_TAG_DIFFERS = 15,    /* the tag is wrong */
     HIWALGAM_NOT_OPEN = 20,       /* the session is closed, or holds numbers that are not allowed */
     HIWALGAM_TAPE_SHORT = 21,     /* the tape has fewer bytes left than the call takes */
-    HIWALGAM_NO_FREE_SLICE = 22,  /* no slice is free for a claim */
+    HIWALGAM_NO_FREE_SLICE = 22,  /* no slice from the start place on is free for a claim */
     HIWALGAM_KEY_COUNT = 23,      /* no key, or more than 15 */
     HIWALGAM_LOWER_CELL = 24      /* a key opens the cell of a lower volume */
 };
@@ -94,8 +95,9 @@ typedef struct hiwalgam_geometry {
  */
 typedef struct hiwalgam_session {
     hiwalgam_geometry geometry;
-    uint64_t volume; /* the opened volume k: it and all below it are open */
-    uint64_t open;   /* 1 for open, anything else for closed */
+    uint64_t volume;      /* the opened volume k: it and all below it are open */
+    uint64_t open;        /* 1 for open, anything else for closed */
+    uint64_t start_place; /* the place of the permutation where a claim begins to look, 0 to P */
     uint8_t keys[HIWALGAM_VOLUMES * HIWALGAM_KEY_BYTES];
 } hiwalgam_session;
 
@@ -103,12 +105,12 @@ typedef struct hiwalgam_session {
 typedef struct hiwalgam_written {
     uint64_t claimed; /* 1 where it claimed a slice, 0 where it rewrote a block or was refused */
     uint64_t slice;   /* the slice that it claimed or rewrote; 0 where it was refused */
-    uint64_t probes;  /* the places of the permutation that it looked at */
+    uint64_t probes;  /* the places of the permutation that it looked at, from the start place on */
 } hiwalgam_written;
 
 /* The bytes of the structs, the same in every translation unit. */
 #define HIWALGAM_GEOMETRY_BYTES 24
-#define HIWALGAM_SESSION_BYTES 520
+#define HIWALGAM_SESSION_BYTES 528
 #define HIWALGAM_WRITTEN_BYTES 24
 
 #if defined(__cplusplus) && __cplusplus >= 201103L
@@ -167,7 +169,8 @@ uint8_t hiwalgam_format(uint8_t *device, size_t device_length,
  * Sets maps, which has 15 x P entries, and owners, which has P. Entry l of volume v stands at maps[v * P + l]:
  * the slice, or HIWALGAM_UNMAPPED. owners[s] is 0 where slice s is free, and v + 1 where volume v holds it.
  * permutation names each of the slices 0 to P - 1 once, in the order in which claims look for a free one; it is
- * drawn at random for a session, and nothing has to keep it.
+ * drawn at random for a session, handed to each of its writes, and nothing has to keep it afterwards. The
+ * session's start place is its first place whose slice is free, or P.
  *
  * Refused by 13 (geometry or session of another size: all stays); by 1, 2, 3, 4 or 5, which leave the tables
  * as they were; by 6, 7, 8, 9 or 10, which set every entry to HIWALGAM_UNMAPPED and every owner to 0. Refused
@@ -212,14 +215,18 @@ size_t hiwalgam_find(const uint8_t *device, size_t device_length,
 /*
  * Writes a block of an open volume: text has B bytes. Where the block's logical slice has a slice, the block
  * is rewritten there and takes 16 bytes of the tape. Otherwise the first free slice in the order of the
- * permutation is claimed, and takes B bytes of the tape. *position is the next unused byte of the tape, and is
- * moved on. Sets written, and the session where it is served.
+ * permutation, from the session's start place on, is claimed, and takes B bytes of the tape; the start place
+ * becomes the claimed place plus one. *position is the next unused byte of the tape, and is moved on. Sets
+ * written; a claim and a 22 set the session.
  *
  * A claim is on the device, but in its maps only after hiwalgam_close: a session that is not closed loses it.
  * Keep tape bytes for the close.
  *
  * Refused by 13 (session or written of another size), 20, 2, 4, 5 (length), 11, 12, 13 (text), 9; a claim by
  * 5 (a place that names no slice) or 22; both by 21. Refused too it sets written, unless that has another size.
+ * A 22 sets the session's start place to P; no other refusal changes the session. With another permutation
+ * than that of the opening a 22 can come while an earlier place is free. The probes of a session's writes,
+ * those refused by 5 or 21 left out, add up to at most P.
  */
 uint8_t hiwalgam_write(uint8_t *device, size_t device_length,
                        uint32_t *maps, size_t maps_length,
@@ -236,7 +243,7 @@ uint8_t hiwalgam_write(uint8_t *device, size_t device_length,
 /*
  * Closes a session: the maps of the open volumes go to the device, with 16 bytes of the tape for each map
  * block, 16 x m x (k + 1) in all; then every entry is HIWALGAM_UNMAPPED, every owner 0, and the session
- * closed, its keys zeros. The device is then to be stored.
+ * closed, its keys zeros; its geometry, volume and start place stay. The device is then to be stored.
  *
  * Refused by 13 (session of another size), 20, 2, 4, 9, 21. The session is still open after a 21, and can be
  * closed with more tape.

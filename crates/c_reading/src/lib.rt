@@ -27,7 +27,7 @@ pub extern "C" fn hiwalgam_read(
         (now (maps .entry)) (now (owners .entry)) (sessionIn (now (session .entry))) volume address (length (now (buf .entry))))
         (now (buf .entry))) (now (buf .entry)) ⌝ }
 {
-    if session.len() != 520 {
+    if session.len() != 528 {
         return 13;
     }
     let s = records::session_in(session);
@@ -53,7 +53,7 @@ pub extern "C" fn hiwalgam_find(
     ensures output { λ r. ⌜ now (out .exit) ≡ choose (sessionSized (now (session .entry))) (copiedOver (findModel (now (device .entry))
         (now (maps .entry)) (now (owners .entry)) (sessionIn (now (session .entry))) volume address) (now (out .entry))) (now (out .entry)) ⌝ }
 {
-    if session.len() != 520 {
+    if session.len() != 528 {
         return 0;
     }
     let s = records::session_in(session);

@@ -21,7 +21,7 @@ stateOf w maps owners perm =
       shuffled = w .shuffled;
       counted = w .counted;
       perm = choose (w .shuffled) (take (w .geometry .p) perm) [];
-      held = held (take (15 * w .geometry .p) maps) (take (w .geometry .p) owners) (w .position) (allOpen (w .geometry));
+      held = held (take (15 * w .geometry .p) maps) (take (w .geometry .p) owners) (w .position) (allOpen (w .geometry) (w .start));
     }
 
 -- What a frame has to leave and to answer.
@@ -29,7 +29,13 @@ pub record Answers (s : Stepped) (state : State) (answer : List ℕ) : Type 0 wh
   pub left : state ≡ s .state
   pub answered : answer ≡ s .answer
 
--- A served frame 03 at block offset j: the position moves on by what was drawn, and the values are answered.
+-- A walk with another tape position and start place.
+abbrev pub moved : Walk → (position start : ℕ) → Walk
+moved w position start =
+    record { geometry = w .geometry; sized = w .sized; shuffled = w .shuffled; counted = w .counted; position = position; start = start }
+
+-- A served frame 03 at block offset j: the position moves on by what was drawn, the start place by what was looked at (document 02,
+-- P2), and the values are answered.
 pub record Serves (w : Walk) (slice j probes drawn : ℕ) (w′ : Walk) (answer : WalkAnswer) : Type 0 where
-  pub moved : w′ ≡ record { geometry = w .geometry; sized = w .sized; shuffled = w .shuffled; counted = w .counted; position = w .position + drawn }
+  pub left : w′ ≡ moved w (w .position + drawn) (w .start + probes)
   pub answered : answer ≡ Served slice (blockStart (w .geometry) slice j / w .geometry .b) probes (w .position + drawn)

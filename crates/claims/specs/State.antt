@@ -19,17 +19,17 @@ pub record State : Type 0 where
   pub perm : List ℕ
   pub held : Held
 
--- A session with all 15 volumes open; no cipher runs, so that its data keys do not matter.
-abbrev pub allOpen : Geometry → Session
-allOpen g = record { geometry = g; k = 14; keys = noKeys; opened = true }
+-- A session with all 15 volumes open, and its start place; no cipher runs, so that its data keys do not matter.
+abbrev pub allOpen : Geometry → (start : ℕ) → Session
+allOpen g start = record { geometry = g; k = 14; keys = noKeys; opened = true; start = start }
 
--- Empty maps, no owners, the tape at its start.
+-- Empty maps, no owners, the tape and the permutation at their start.
 abbrev pub empty : Geometry → Held
-empty g = held (replicate (15 * g .p) unmapped) (replicate (g .p) 0) 0 (allOpen g)
+empty g = held (replicate (15 * g .p) unmapped) (replicate (g .p) 0) 0 (allOpen g 0)
 
 -- Before the first line.
 abbrev pub start : State
-start = record { sized = false; shuffled = false; counted = 0; perm = []; held = held [] [] 0 (allOpen (record { b = 0; s = 0; p = 0 })) }
+start = record { sized = false; shuffled = false; counted = 0; perm = []; held = held [] [] 0 (allOpen (record { b = 0; s = 0; p = 0 }) 0) }
 
 -- A tape of so many zeros.
 unfoldable pub zeros : ℕ → List ℕ

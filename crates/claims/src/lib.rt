@@ -11,7 +11,7 @@ ghost use Rattle.model.specs.Geometry.{Allowed};
 ghost use Rattle.lines.specs.Answers.{answerBytes};
 ghost use Rattle.claims.specs.State.{allOpen};
 ghost use Rattle.claims.specs.Claims.{written};
-ghost use Rattle.claims.specs.Answers.{stateOf, Answers, Serves};
+ghost use Rattle.claims.specs.Answers.{stateOf, Answers, moved, Serves};
 use deciding::Decision;
 use lines::WalkAnswer;
 use model::Geometry;
@@ -29,13 +29,14 @@ const TAPE: usize = MOST_CLAIMS * 4096;
 // ---- the walk
 
 // The numbers of a walk: the geometry of the accepted frame 01, whether a frame 01 and a frame 02 were accepted, how many
-// frames 03 of the right length came, and the tape position.
+// frames 03 of the right length came, the tape position, and the start place (document 02, P2).
 pub struct Walk {
     pub geometry: Geometry,
     pub sized: bool,
     pub shuffled: bool,
     pub counted: usize,
     pub position: usize,
+    pub start: usize,
 }
 
 // What a frame leaves and answers.
@@ -57,32 +58,43 @@ pub fn refuse(walk: Walk, refusal: Refusal) -> Answered
 // ---- the engine's write
 
 // A session with all 15 volumes open, without data keys.
-fn all_open(g: Geometry) -> Session
-    ensures { λ r. ⌜ r ≡ allOpen g ⌝ }
+fn all_open(g: Geometry, start: usize) -> Session
+    ensures { λ r. ⌜ r ≡ allOpen g start ⌝ }
 {
     Session {
         geometry: g,
         k: 14,
         keys: [0u8; 480],
         opened: true,
+        start: start,
     }
 }
 
-// A served frame 03, which took so many tape bytes.
+// A walk with another tape position and start place.
+fn move_to(walk: Walk, position: usize, start: usize) -> Walk
+    ensures { λ r. ⌜ r ≡ moved walk position start ⌝ }
+{
+    let g = walk.geometry;
+    Walk {
+        geometry: g,
+        sized: walk.sized,
+        shuffled: walk.shuffled,
+        counted: walk.counted,
+        position: position,
+        start: start,
+    }
+}
+
+// A served frame 03, which looked at so many places and took so many tape bytes.
 fn serve(walk: Walk, slice: usize, j: usize, probes: usize, drawn: usize) -> Answered
-    requires { ⌜ Allowed (walk .geometry) × (slice < walk .geometry .p) × (j < walk .geometry .s) × (walk .position + drawn ≤ 16777216) ⌝ }
+    requires { ⌜ Allowed (walk .geometry) × (slice < walk .geometry .p) × (j < walk .geometry .s) × (walk .position + drawn ≤ 16777216)
+        × (walk .start + probes ≤ walk .geometry .p) ⌝ }
     ensures { λ r. ⌜ Serves walk slice j probes drawn (r .walk) (r .answer) ⌝ }
 {
     let g = walk.geometry;
     let position = walk.position + drawn;
     Answered {
-        walk: Walk {
-            geometry: g,
-            sized: walk.sized,
-            shuffled: walk.shuffled,
-            counted: walk.counted,
-            position: position,
-        },
+        walk: move_to(walk, position, walk.start + probes),
         answer: WalkAnswer::Served {
             slice: slice,
             block: places::block_start(g, slice, j) / g.b,
@@ -116,17 +128,18 @@ pub fn claim(
         &perm[..p],
         TAPE,
         walk.position,
-        all_open(g),
+        all_open(g, walk.start),
         volume,
         address,
         g.b,
     );
     match decision {
         Decision::Refused { refusal, probes: _ } => refuse(walk, refusal),
+        Decision::Full => refuse(move_to(walk, walk.position, p), Refusal::NoFreeSlice),
         Decision::Rewrite(slice) => serve(walk, slice, address % g.s, 0, 16),
         Decision::Claim { slice, place } => {
             tables::assign(maps, owners, g, volume, address / g.s, slice);
-            serve(walk, slice, address % g.s, place + 1, g.b)
+            serve(walk, slice, address % g.s, place + 1 - walk.start, g.b)
         }
     }
 }

@@ -76,7 +76,7 @@ fn close_refusal(
     Answer::Served
 }
 
-// The session after a close: closed, its keys 0, geometry and k as they were.
+// The session after a close: closed, its keys 0, geometry, k and start place as they were.
 fn closed_session(session: Session) -> Session
     ensures { λ r. ⌜ r ≡ closedSession session ⌝ }
 {
@@ -87,6 +87,7 @@ fn closed_session(session: Session) -> Session
         k: session.k,
         keys: none,
         opened: false,
+        start: session.start,
     }
 }
 

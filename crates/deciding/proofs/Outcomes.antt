@@ -1,28 +1,28 @@
 -- What is decided on a write, by the tests that the code makes. Assumes nothing.
-use Prim.Native.Nat.{ℕ, _+_, _≤_, _<_}
+use Prim.Native.Nat.{ℕ, _≤_, _<_}
 use mathlib.Core.Path.{_≡_, refl, _∙_}
 use mathlib.Core.Bool.{true, false}
 use mathlib.Core.List.{List}
-use native.Mathlib.Nat.{sub-zero}
 use native.Mathlib.Omega.{arith}
 use lib.ListN.{length}
 use borrow.Author.Tests.{lt-ltb, le-ltb}
 use Rattle.refusals.specs.Numbers.{refusalNumber}
 use Rattle.refusals.specs.declared.Refusal.{Refusal}
-use Rattle.refusals.specs.declared.Refusal.the-variants.{TapeShort, BadPermutation, NoFreeSlice}
+use Rattle.refusals.specs.declared.Refusal.the-variants.{TapeShort, BadPermutation}
 use Rattle.refusals.proofs.Positive.{refusal-positive}
 use Rattle.model.specs.declared.Geometry.{Geometry}
 use Rattle.model.specs.declared.Session.{Session}
 use Rattle.model.specs.declared.Search.{Search}
-use Rattle.model.specs.declared.Search.the-variants.{Free, Bad, Full}
+use Rattle.model.specs.declared.Search.the-variants.{Free, Bad}
 use Rattle.model.specs.Session.{Held, held, sliceOf, offsetOf, entryOf, short}
-use Rattle.model.specs.Write.{firstFree, rewriteOutcome, claimOutcome, writeRefusal, writeModel}
+use Rattle.model.specs.Search.{firstFree}
+use Rattle.model.specs.Write.{probesTo, rewriteOutcome, claimOutcome, writeRefusal, writeModel}
 use Rattle.model.proofs.Requests.{Writable, short-false}
 use Rattle.model.proofs.Order.{unless-refused}
 use Rattle.model.proofs.Searches.{firstFree-free, firstFree-bad}
 use Rattle.deciding.specs.declared.Decision.{Decision}
-use Rattle.deciding.specs.declared.Decision.the-variants.{Refused, Rewrite, Claim}
-use Rattle.deciding.specs.Decided.{Decided}
+use Rattle.deciding.specs.declared.Decision.the-variants.{Refused, Full, Rewrite, Claim}
+use Rattle.deciding.specs.Decided.{Decided, Looked}
 
 -- ---- the decision
 
@@ -64,35 +64,40 @@ module _ (device : ℕ) (maps owners : List ℕ) (position : ℕ) (s : Session) 
 
     -- ---- a claim
 
-    -- A place that the search ends at is one of the permutation's.
-    pub bad-place : (place : ℕ) → firstFree owners (g .p) 0 perm ≡ Bad place → place < g .p
-    bad-place place q = omega (arith, firstFree-bad owners (g .p) perm place q, w .places)
+    -- A place that the search ends at is one of the permutation's, from the start place on.
+    pub bad-place : (place : ℕ) → firstFree owners (g .p) (s .start) perm ≡ Bad place → Looked s place
+    bad-place place q =
+        let f = firstFree-bad owners (g .p) perm (s .start) place q in
+        record { from = f .1; inside = omega (arith, f .0, w .places) }
 
-    pub free-place : (ψ place : ℕ) → firstFree owners (g .p) 0 perm ≡ Free ψ place → place < g .p
-    free-place ψ place q = omega (arith, firstFree-free owners (g .p) perm ψ place q .1, w .places)
+    pub free-place : (ψ place : ℕ) → firstFree owners (g .p) (s .start) perm ≡ Free ψ place → Looked s place
+    free-place ψ place q =
+        let f = firstFree-free owners (g .p) perm (s .start) ψ place q in
+        record { from = f .2; inside = omega (arith, f .1, w .places) }
 
-    module _ (x : ℕ) (e : x ≡ entryOf maps g i a) (past : g .p ≤ x) (found : Search) (f : firstFree owners (g .p) 0 perm ≡ found) where
+    module _ (x : ℕ) (e : x ≡ entryOf maps g i a) (past : g .p ≤ x) (found : Search)
+        (f : firstFree owners (g .p) (s .start) perm ≡ found) where
       unmapped-searched : (text bytes : List ℕ) → length text ≡ len
           → writeModel device lent i a text perm bytes ≡ claimOutcome lent i (sliceOf g a) (offsetOf g a) text bytes found
       unfolding writeModel
       unmapped-searched text bytes t = rw (t, w .none, ← e, le-ltb x (g .p) past, f)
 
-      pub claim-bad : (place : ℕ) → found ≡ Bad place → Right (Refused BadPermutation (place + 1))
-      claim-bad place q text bytes t b = unmapped-searched text bytes t ∙ rw (q, sub-zero (place + 1)) refl
+      pub claim-bad : (place : ℕ) → found ≡ Bad place → (n : ℕ) → n ≡ probesTo s place → Right (Refused BadPermutation n)
+      claim-bad place q n looks text bytes t b = unmapped-searched text bytes t ∙ rw (q, looks) refl
 
-      pub claim-full : found ≡ Full → Right (Refused NoFreeSlice (length perm))
-      claim-full q text bytes t b = unmapped-searched text bytes t ∙ rw (q, w .places, sub-zero (g .p)) refl
+      pub claim-full : found ≡ Search.Full → Right Full
+      claim-full q text bytes t b = (unmapped-searched text bytes t ∙ rw q refl, w .stands .usable .place)
 
       module _ (ψ place : ℕ) (q : found ≡ Free ψ place) where
-        pub claim-short : short tape position (g .b) ≡ true → Right (Refused TapeShort (place + 1))
-        claim-short z text bytes t b = unmapped-searched text bytes t ∙ rw (q, b, z, sub-zero (place + 1)) refl
+        pub claim-short : short tape position (g .b) ≡ true → (n : ℕ) → n ≡ probesTo s place → Right (Refused TapeShort n)
+        claim-short z n looks text bytes t b = unmapped-searched text bytes t ∙ rw (q, b, z, looks) refl
 
         pub claim-served : short tape position (g .b) ≡ false → Right (Claim ψ place)
         claim-served z text bytes t b = (
           record {
             outcome = unmapped-searched text bytes t ∙ rw (q, b, z) refl;
             none = rw t (w .none);
-            slice = firstFree-free owners (g .p) perm ψ place (f ∙ q) .0;
+            slice = firstFree-free owners (g .p) perm (s .start) ψ place (f ∙ q) .0;
             enough = rw b (short-false _ _ _ z);
           },
           free-place ψ place (f ∙ q),

@@ -1,5 +1,5 @@
--- What a decision on a write says of the model's write (document 01, "Write"). Assumes nothing.
-use Prim.Native.Nat.{ℕ, _<_}
+-- What a decision on a write says of the model's write (document 01, "Write"; document 02, P2). Assumes nothing.
+use Prim.Native.Nat.{ℕ, _≤_, _<_}
 use mathlib.Core.Path.{_≡_}
 use mathlib.Core.List.{List}
 use lib.ListN.{length}
@@ -7,9 +7,9 @@ use Rattle.refusals.specs.Numbers.{refusalNumber}
 use Rattle.model.specs.declared.Session.{Session}
 use Rattle.model.specs.Session.{Held, Outcome, geometry, sliceOf, offsetOf, idle}
 use Rattle.model.specs.Conditions.{Enough}
-use Rattle.model.specs.Write.{WriteResult, rewritten, claimed, writeRefusal, writeModel}
+use Rattle.model.specs.Write.{WriteResult, rewritten, claimed, full, writeRefusal, writeModel}
 use Rattle.deciding.specs.declared.Decision.{Decision}
-use Rattle.deciding.specs.declared.Decision.the-variants.{Refused, Rewrite, Claim}
+use Rattle.deciding.specs.declared.Decision.the-variants.{Refused, Full, Rewrite, Claim}
 
 -- A write that is served: what the model gives for it, and what carrying it out needs: no refusal applies, the slice is below
 -- P, and the tape has the bytes.
@@ -19,25 +19,34 @@ pub record Serves (device : ℕ) (h : Held) (i a : ℕ) (text perm tape : List �
   pub slice : ψ < geometry h .p
   pub enough : Enough (length tape) (h .position) need
 
--- Refused: the model refuses with this number and count. Rewrite and Claim: the model serves with this slice.
+-- A place that the search came to: from the start place on, and below P.
+pub record Looked (s : Session) (place : ℕ) : Type 0 where
+  pub from : s .start ≤ place
+  pub inside : place < s .geometry .p
+
+-- Refused: the model refuses with this number and count, and nothing changes. Full: it refuses with 22, with all places from the start
+-- place on looked at. Rewrite and Claim: it serves with this slice.
 abbrev pub Decided : (device : ℕ) → Held → (i a : ℕ) → (text perm tape : List ℕ) → Decision → Type 0
 Decided device h i a text perm tape (Refused r probes) =
     writeModel device h i a text perm tape ≡ idle h (WriteResult.Refused (refusalNumber r) probes)
+Decided device h i a text perm tape Full = (writeModel device h i a text perm tape ≡ full h) × (h .session .start ≤ geometry h .p)
 Decided device h i a text perm tape (Rewrite ψ) =
     Serves device h i a text perm tape (rewritten h i ψ (offsetOf (geometry h) a) text tape) ψ 16
 Decided device h i a text perm tape (Claim ψ place) =
     Serves device h i a text perm tape (claimed h i (sliceOf (geometry h) a) (offsetOf (geometry h) a) ψ place text tape) ψ (geometry h .b)
-    × (place < geometry h .p)
+    × Looked (h .session) place
 
 -- The tape bytes that a decision draws.
 abbrev pub needed : Session → Decision → ℕ
 needed s (Refused r probes) = 0
+needed s Full = 0
 needed s (Rewrite ψ) = 16
 needed s (Claim ψ place) = s .geometry .b
 
 -- What carrying a decision out comes to, its bytes drawn from a tape.
 abbrev pub carried : Held → (i a : ℕ) → (text tape : List ℕ) → Decision → Outcome WriteResult
 carried h i a text tape (Refused r probes) = idle h (WriteResult.Refused (refusalNumber r) probes)
+carried h i a text tape Full = full h
 carried h i a text tape (Rewrite ψ) = rewritten h i ψ (offsetOf (geometry h) a) text tape
 carried h i a text tape (Claim ψ place) = claimed h i (sliceOf (geometry h) a) (offsetOf (geometry h) a) ψ place text tape
 
@@ -52,6 +61,7 @@ pub record Fits (device : ℕ) (maps owners : List ℕ) (s : Session) (i a text 
 -- What carrying a decision out needs.
 abbrev pub Ready : (device : ℕ) → (maps owners : List ℕ) → Session → (i a text drawn : ℕ) → Decision → Type 0
 Ready device maps owners s i a text drawn (Refused r probes) = Unit {0}
+Ready device maps owners s i a text drawn Full = s .start ≤ s .geometry .p
 Ready device maps owners s i a text drawn (Rewrite ψ) = Fits device maps owners s i a text drawn ψ 16
 Ready device maps owners s i a text drawn (Claim ψ place) =
-    Fits device maps owners s i a text drawn ψ (s .geometry .b) × (place < s .geometry .p)
+    Fits device maps owners s i a text drawn ψ (s .geometry .b) × Looked s place

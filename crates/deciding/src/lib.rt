@@ -7,17 +7,19 @@ ghost use Prim.Native.Nat.{ℕ};
 ghost use lib.ListN.{length};
 ghost use Rattle.refusals.specs.Numbers.{answerNumber};
 ghost use Rattle.model.specs.Session.{held};
-ghost use Rattle.model.specs.Write.{writeRefusal};
-ghost use Rattle.deciding.specs.Decided.{Decided, needed};
+ghost use Rattle.model.specs.Write.{writeRefusal, probesTo};
+ghost use Rattle.deciding.specs.Decided.{Decided, Looked, needed};
 use model::Search;
 use model::Session;
 use refusals::Answer;
 use refusals::Refusal;
 
-// A write is refused, with the places looked at; or it rewrites a block of the slice that its entry names; or it claims the
-// free slice that was found at a place of the permutation.
+// A write is refused, with the places looked at, and changes nothing; or it finds no free slice (22), which moves the start
+// place; or it rewrites a block of the slice that its entry names; or it claims the free slice that was found at a place of the
+// permutation.
 pub enum Decision {
     Refused { refusal: Refusal, probes: usize },
+    Full,
     Rewrite(usize),
     Claim { slice: usize, place: usize },
 }
@@ -44,6 +46,14 @@ fn write_refusal(
         return Answer::Refused(Refusal::BadPermutation);
     }
     requests::check_asked(maps, session, volume, address, len)
+}
+
+// The number of places looked at, from the start place up to a place that the search came to.
+pub fn probes_to(session: Session, place: usize) -> usize
+    requires { ⌜ Looked session place ⌝ }
+    ensures { λ r. ⌜ r ≡ probesTo session place ⌝ }
+{
+    place + 1 - session.start
 }
 
 // The decision on a write of len bytes to a device of so many bytes, with a tape of so many bytes and its position. What
@@ -90,21 +100,18 @@ pub fn decide(
         }
         return Decision::Rewrite(entry);
     }
-    let found = tables::first_free(owners, perm, 0);
+    let found = tables::first_free(owners, perm, session.start);
     match found {
         Search::Bad(place) => Decision::Refused {
             refusal: Refusal::BadPermutation,
-            probes: place + 1,
+            probes: probes_to(session, place),
         },
-        Search::Full => Decision::Refused {
-            refusal: Refusal::NoFreeSlice,
-            probes: perm.len(),
-        },
+        Search::Full => Decision::Full,
         Search::Free { slice, place } => {
             if tape::is_short(tape, position, g.b) {
                 return Decision::Refused {
                     refusal: Refusal::TapeShort,
-                    probes: place + 1,
+                    probes: probes_to(session, place),
                 };
             }
             Decision::Claim {
@@ -125,6 +132,9 @@ pub fn need(decision: Decision, session: Session) -> usize
             refusal: _,
             probes: _,
         } => {
+            return 0;
+        }
+        Decision::Full => {
             return 0;
         }
         Decision::Rewrite(_) => {

@@ -19,11 +19,13 @@ fn say_number(n: usize) {
     io::print_decimal(STDOUT_FILENO, n as u64);
 }
 
-fn say_open(answer: OpenAnswer) {
+fn say_open(answer: OpenAnswer, start: usize) {
     match answer {
         OpenAnswer::Opened(k) => {
             say(b"opened to volume ");
             say_number(k);
+            say(b", start place ");
+            say_number(start);
         }
         OpenAnswer::Refused(r) => {
             say(b"refused, ");
@@ -137,8 +139,8 @@ fn show_open(
     say(b": ");
     let o = opening::open(device, geometry(), &caller_key(key), maps, owners, perm);
     let answer = o.answer;
-    say_open(answer);
     let session = o.session;
+    say_open(answer, session.start);
     session
 }
 
@@ -180,7 +182,7 @@ fn show_write(
     session: Session,
     volume: usize,
     text: &[u8],
-) {
+) -> Session {
     say(b"write block 5 of volume ");
     say_number(volume);
     say(b": ");
@@ -199,6 +201,8 @@ fn show_write(
     let position = *at;
     let answer = w.answer;
     say_write(answer, position);
+    let left = w.session;
+    left
 }
 
 // Block 5 of volume 1 written twice: claimed, then rewritten.
@@ -211,9 +215,9 @@ fn show_twice(
     at: &mut usize,
     session: Session,
     text: &[u8],
-) {
-    show_write(device, maps, owners, perm, tape, at, session, 1, text);
-    show_write(device, maps, owners, perm, tape, at, session, 1, text);
+) -> Session {
+    let next = show_write(device, maps, owners, perm, tape, at, session, 1, text);
+    show_write(device, maps, owners, perm, tape, at, next, 1, text)
 }
 
 // Block 5 of volume 0, which is open too, and of volume 2, which is above the opened one.
@@ -225,10 +229,10 @@ fn show_others(
     tape: &[u8],
     at: &mut usize,
     session: Session,
-) {
+) -> Session {
     let text = [7u8; 1024];
-    show_write(device, maps, owners, perm, tape, at, session, 0, &text);
-    show_write(device, maps, owners, perm, tape, at, session, 2, &text);
+    let next = show_write(device, maps, owners, perm, tape, at, session, 0, &text);
+    show_write(device, maps, owners, perm, tape, at, next, 2, &text)
 }
 
 fn show_find(device: &[u8], maps: &[u32], owners: &[u8], session: Session) {
@@ -257,7 +261,7 @@ fn show_close(
     closed
 }
 
-// The writes of one session, and where the block of volume 1 is found.
+// The writes of one session, each handed what the one before it leaves, and where the block of volume 1 is found.
 fn show_requests(
     device: &mut [u8],
     maps: &mut [u32],
@@ -267,10 +271,11 @@ fn show_requests(
     at: &mut usize,
     session: Session,
     text: &[u8],
-) {
-    show_twice(device, maps, owners, perm, tape, at, session, text);
-    show_others(device, maps, owners, perm, tape, at, session);
-    show_find(device, maps, owners, session);
+) -> Session {
+    let once = show_twice(device, maps, owners, perm, tape, at, session, text);
+    let twice = show_others(device, maps, owners, perm, tape, at, once);
+    show_find(device, maps, owners, twice);
+    twice
 }
 
 // What an open session is asked, its close, and a request after it.
@@ -284,8 +289,8 @@ fn show_work(
     session: Session,
     text: &[u8],
 ) {
-    show_requests(device, maps, owners, perm, tape, at, session, text);
-    let closed = show_close(device, maps, owners, tape, at, session);
+    let left = show_requests(device, maps, owners, perm, tape, at, session, text);
+    let closed = show_close(device, maps, owners, tape, at, left);
     show_read(device, maps, owners, closed, 1);
 }
 

@@ -21,7 +21,8 @@ use Rattle.model.proofs.Requests.{Formattable, formatRefusal-none}
 use Rattle.model.proofs.Order.{unless-refused}
 use Rattle.tape.specs.Draw.{drawn, past}
 use Rattle.tape.proofs.Draws.{drawn-enough, drawn-length, past-enough, past-none}
-use Rattle.formatting.specs.Drawn.{Makes, needed}
+use Rattle.making.specs.Drawn.{Makes}
+use Rattle.formatting.specs.Needed.{needed}
 
 module _ (device : List ℕ) (g : Geometry) (n : ℕ) (keys tape : List ℕ) (at : ℕ) where
   -- The refusal of the call, and what holds where there is none.

@@ -1,4 +1,3 @@
-pub mod Draws
-pub mod Made
+pub mod Counts
 pub mod Refusals
 pub mod Carries

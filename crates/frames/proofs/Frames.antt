@@ -61,7 +61,7 @@ module _ (w : State) (fields : List ℕ) where
 -- The state of memory that is cleared, long enough for the geometry.
 pub stateOf-empty : (g : Geometry) (counted : ℕ) (maps owners perm : List ℕ) (m n : ℕ) → maps ≡ replicate m unmapped → owners ≡ replicate n 0
     → 15 * g .p ≤ m → g .p ≤ n
-    → stateOf (record { geometry = g; sized = true; shuffled = false; counted = counted; position = 0 }) maps owners perm
+    → stateOf (record { geometry = g; sized = true; shuffled = false; counted = counted; position = 0; start = 0 }) maps owners perm
     ≡ record { sized = true; shuffled = false; counted = counted; perm = []; held = empty g }
 stateOf-empty g counted maps owners perm m n e f l k = rw (e, f, take-replicate (15 * g .p) m unmapped l, take-replicate (g .p) n 0 k)
 

@@ -114,6 +114,7 @@ fn on_size(
             shuffled: false,
             counted: walk.counted,
             position: 0,
+            start: 0,
         },
         answer: WalkAnswer::Accepted,
     }
@@ -172,6 +173,7 @@ fn on_order(walk: Walk, perm: &mut [u32; MOST_SLICES], fields: &[u8]) -> Answere
             shuffled: true,
             counted: walk.counted,
             position: walk.position,
+            start: walk.start,
         },
         answer: WalkAnswer::Accepted,
     }
@@ -179,8 +181,8 @@ fn on_order(walk: Walk, perm: &mut [u32; MOST_SLICES], fields: &[u8]) -> Answere
 
 // ---- frame 03
 
-// The same on the whole of the lent memory, by any numbers: no walk has a geometry that is not allowed or a P above 256, and
-// the engine would refuse them so.
+// The same on the whole of the lent memory, by any numbers: no walk has a geometry that is not allowed, a start place above P or
+// a P above 256, and the engine would refuse them so.
 fn check_and_claim(
     walk: Walk,
     maps: &mut [u32],
@@ -196,6 +198,9 @@ fn check_and_claim(
     let g = walk.geometry;
     if let Answer::Refused(r) = places::check_geometry(Refusal::NotOpen, g) {
         return claims::refuse(walk, r);
+    }
+    if g.p < walk.start {
+        return claims::refuse(walk, Refusal::NotOpen);
     }
     if MOST_SLICES < g.p {
         return claims::refuse(walk, Refusal::TableLength);
@@ -227,6 +232,7 @@ fn on_claim(
         shuffled: walk.shuffled,
         counted: walk.counted + 1,
         position: walk.position,
+        start: walk.start,
     };
     if !walk.sized {
         return claims::refuse(counting, Refusal::NotOpen);

@@ -7,44 +7,46 @@ use lib.ListN.{length}
 use Rattle.model.specs.declared.Geometry.{Geometry}
 use Rattle.model.specs.declared.Session.{Session}
 use Rattle.model.specs.Geometry.{cellOf, headerOf}
+use Rattle.model.specs.Search.{firstFree, startPlace}
 use Rattle.model.specs.Opening.{Cell, At, NoCell, firstCell, Chain, Keys, Broken, chain}
 use Rattle.model.specs.Opening.{Loaded, Tables, Spoilt, loadMaps, openRefusal}
 use Rattle.model.specs.Opening.{OpenResult, OpenTo, NotOpened, OpenOutcome, noSession, untouched, wiped, withTables, withKeys, withCell, openModel}
 use Rattle.model.specs.Answers.{OpenLeaves}
 use Rattle.model.proofs.Order.{unless-refused}
-use Rattle.opening.specs.Steps.{ChainOpened}
+use Rattle.chaining.specs.Steps.{ChainOpened}
 
 -- ---- the outcome
 
-module _ (g : Geometry) (header : ℕ → List ℕ) where
-  withKeys-broken : (ch : Chain) (k n : ℕ) (keys : List ℕ) → ChainOpened ch k n keys → (n ≡ 0 → ⊥) → withKeys g header k ch ≡ wiped g n
+module _ (g : Geometry) (perm : List ℕ) (header : ℕ → List ℕ) where
+  withKeys-broken : (ch : Chain) (k n : ℕ) (keys : List ℕ) → ChainOpened ch k n keys → (n ≡ 0 → ⊥) → withKeys g perm header k ch ≡ wiped g n
   unfolding withKeys
   withKeys-broken (Keys ks) k n keys (e, q) h = absurd (h e)
   withKeys-broken (Broken m) k n keys (e, q) h = ap (wiped g) (sym e)
 
   withKeys-served : (ch : Chain) (k n : ℕ) (keys : List ℕ) → ChainOpened ch k n keys → n ≡ 0
-      → withKeys g header k ch ≡ withTables g k keys (loadMaps g header keys k)
+      → withKeys g perm header k ch ≡ withTables g perm k keys (loadMaps g header keys k)
   unfolding withKeys
-  withKeys-served (Keys ks) k n keys (e, q) z = ap (λ (x : List ℕ). withTables g k x (loadMaps g header x k)) (sym q)
+  withKeys-served (Keys ks) k n keys (e, q) z = ap (λ (x : List ℕ). withTables g perm k x (loadMaps g header x k)) (sym q)
   withKeys-served (Broken m) k n keys (e, q) z = absurd (q z)
 
-  pub withCell-none : {o : Cell} → o ≡ NoCell → withCell g header o ≡ wiped g 6
+  pub withCell-none : {o : Cell} → o ≡ NoCell → withCell g perm header o ≡ wiped g 6
   unfolding withCell
   withCell-none e = rw e
 
   module _ {o : Cell} (k : ℕ) (vmk : List ℕ) (at : o ≡ At k vmk) (n : ℕ) (keys : List ℕ)
       (opened : ChainOpened (chain g header k vmk []) k n keys) where
-    pub withCell-broken : (n ≡ 0 → ⊥) → withCell g header o ≡ wiped g n
+    pub withCell-broken : (n ≡ 0 → ⊥) → withCell g perm header o ≡ wiped g n
     unfolding withCell
     withCell-broken h = rw at (withKeys-broken (chain g header k vmk []) k n keys opened h)
 
-    pub withCell-served : n ≡ 0 → withCell g header o ≡ withTables g k keys (loadMaps g header keys k)
+    pub withCell-served : n ≡ 0 → withCell g perm header o ≡ withTables g perm k keys (loadMaps g header keys k)
     unfolding withCell
     withCell-served z = rw at (withKeys-served (chain g header k vmk []) k n keys opened z)
 
-pub withTables-spoilt : (g : Geometry) (k : ℕ) (keys : List ℕ) {l : Loaded} {n : ℕ} → l ≡ Spoilt n → withTables g k keys l ≡ wiped g n
+pub withTables-spoilt : (g : Geometry) (perm : List ℕ) (k : ℕ) (keys : List ℕ) {l : Loaded} {n : ℕ} → l ≡ Spoilt n
+    → withTables g perm k keys l ≡ wiped g n
 unfolding withTables
-withTables-spoilt g k keys e = rw e
+withTables-spoilt g perm k keys e = rw e
 
 module _ (device : List ℕ) (g : Geometry) (key maps owners perm : List ℕ) where
   pub openModel-refused : {n : ℕ} → n ≡ openRefusal g (length device) (length key) (length maps) (length owners) perm → 0 < n
@@ -53,7 +55,7 @@ module _ (device : List ℕ) (g : Geometry) (key maps owners perm : List ℕ) wh
   openModel-refused {n} e l = rw (← e) (unless-refused n _ _ l)
 
   pub openModel-served : openRefusal g (length device) (length key) (length maps) (length owners) perm ≡ 0
-      → openModel device g key maps owners perm ≡ withCell g (headerOf g device) (firstCell key (cellOf device) 15 0)
+      → openModel device g key maps owners perm ≡ withCell g perm (headerOf g device) (firstCell key (cellOf device) 15 0)
   unfolding openModel
   openModel-served e = rw e
 
@@ -64,11 +66,13 @@ pub leaves-refused : (m w : List ℕ) (n : ℕ) {o : OpenOutcome} {answer : Open
     → o ≡ untouched m w n → answer ≡ NotOpened n → maps ≡ m → owners ≡ w → session ≡ noSession → OpenLeaves o answer maps owners session
 leaves-refused m w n e a em ew s = rw e (record { answered = a; mapped = em; owned = ew; handed = s })
 
--- A served one.
-pub leaves-opened : (g : Geometry) (k : ℕ) (keys : List ℕ) {l : Loaded} {maps owners : List ℕ} → l ≡ Tables maps owners
-    → OpenLeaves (withTables g k keys l) (OpenTo k) maps owners (record { geometry = g; k = k; keys = keys; opened = true })
+-- A served one, with the start place that was found in the owner table.
+pub leaves-opened : (g : Geometry) (perm : List ℕ) (k : ℕ) (keys : List ℕ) {l : Loaded} {maps owners : List ℕ} → l ≡ Tables maps owners
+    → length owners ≡ g .p → (n : ℕ) → n ≡ startPlace (length owners) (firstFree owners (length owners) 0 perm)
+    → OpenLeaves (withTables g perm k keys l) (OpenTo k) maps owners (record { geometry = g; k = k; keys = keys; opened = true; start = n })
 unfolding withTables
-leaves-opened g k keys e = rw e (record { answered = refl; mapped = refl; owned = refl; handed = refl })
+leaves-opened g perm k keys e long n first =
+    rw (e, first, long) (record { answered = refl; mapped = refl; owned = refl; handed = refl })
 
 pub leaves-by : {o p : OpenOutcome} → o ≡ p → (answer : OpenResult) (maps owners : List ℕ) (session : Session)
     → OpenLeaves o answer maps owners session → OpenLeaves p answer maps owners session

@@ -1,31 +1,16 @@
--- Laws of refused openings: a refusal's number is not 0, and the rows 1 to 5 as their tests find them. Assumes nothing.
+-- Laws of refused openings: the rows 1 to 5 as their tests find them. Assumes nothing.
 use Prim.Native.Nat.{ℕ, _*_, _<_}
-use mathlib.Core.Path.{_≡_, sym, ap, _∙_}
+use mathlib.Core.Path.{_≡_, sym, _∙_}
 use mathlib.Core.List.{List}
 use mathlib.Core.Bool.{true, false}
-use native.Mathlib.Omega.{arith}
 use borrow.Author.Tests.{eq-eqb, ne-eqb}
 use lib.ListN.{length}
-use Rattle.refusals.specs.declared.Refusal.{Refusal}
-use Rattle.refusals.specs.declared.Answer.{Answer}
-use Rattle.refusals.specs.declared.Answer.the-variants.{Served, Refused}
-use Rattle.refusals.specs.Numbers.{answerNumber, refuse}
-use Rattle.refusals.proofs.Positive.{answer-positive}
+use Rattle.refusals.specs.Numbers.{refuse}
 use Rattle.model.specs.declared.Geometry.{Geometry}
 use Rattle.model.specs.Geometry.{Allowed, badGeometry, deviceLength}
 use Rattle.model.specs.Opening.{missing, openRefusal}
 use Rattle.model.proofs.Tests.{badGeometry-allowed}
 use Rattle.model.proofs.Order.{badGeometry-first}
-
--- ---- numbers
-
-pub answer-refused : {a : Answer} {r : Refusal} → a ≡ Refused r → answerNumber a ≡ 0 → ⊥
-answer-refused e z = omega (arith, answer-positive e)
-
-pub answer-served : {a : Answer} → a ≡ Served → answerNumber a ≡ 0
-answer-served e = ap answerNumber e
-
--- ---- 1 to 5
 
 module _ (g : Geometry) (device key maps owners : ℕ) (perm : List ℕ) where
   pub wrong-geometry : 0 < badGeometry 1 g 0 → badGeometry 1 g 0 ≡ openRefusal g device key maps owners perm

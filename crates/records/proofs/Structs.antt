@@ -1,19 +1,20 @@
 -- Laws of the structs: how long they are, that they read back, and how code puts them together. Assumes nothing.
 use mathlib.Core.Path.{_≡_, refl, sym, ap, ap₂, _∙_, subst}
-use mathlib.Core.Bool.{Bool, true, false}
+use mathlib.Core.Bool.{Bool, true, false, _&&_}
 use mathlib.Core.List.{List, [], _++_, append-nil}
 use Prim.Native.Nat.{ℕ, _+_, _^_, _<_}
 use native.Mathlib.Omega.{arith}
 use lib.Dec.{eqb}
 use lib.ListN.{length, length-append}
+use borrow.Author.Tests.{eqb-true, ne-eqb}
 use Rattle.model.specs.declared.Geometry.{Geometry}
 use Rattle.model.specs.declared.Session.{Session}
 use Rattle.model.specs.Parts.{part, overlay}
 use Rattle.model.proofs.Parts.{part-first, part-next, part-last, part-left, part-right}
 use Rattle.places.proofs.Parts.{overlay-append, overlay-all}
 use Rattle.records.specs.Numbers.{eightAt, eightBytes, threeBytes, littleNumber}
-use Rattle.records.specs.Structs.{bitOf, geometryIn, geometryBytes, sessionIn, sessionBytes}
-use Rattle.records.specs.Theorems.{Numbers64, SessionFields, Fields}
+use Rattle.records.specs.Structs.{bitOf, geometryIn, geometryBytes, sessionIn, sessionBytes, handedBack}
+use Rattle.records.specs.Theorems.{Numbers64, Fits, SessionFields, Fields}
 use Rattle.records.proofs.Numbers.{littleEndian-length, littleNumber-littleEndian}
 
 -- ---- lengths
@@ -27,15 +28,22 @@ threeBytes-length x y z =
     ∙ ap₂ (λ (m n : ℕ). m + n) (eightBytes-length x)
     (length-append (eightBytes y) (eightBytes z) ∙ ap₂ (λ (m n : ℕ). m + n) (eightBytes-length y) (eightBytes-length z))
 
-pub sessionBytes-length : (s : Session) → length (s .keys) ≡ 480 → length (sessionBytes s) ≡ 520
+pub sessionBytes-length : (s : Session) → length (s .keys) ≡ 480 → length (sessionBytes s) ≡ 528
 sessionBytes-length s e =
     let g = s .geometry in
-    let opened = bitOf (s .opened) in
-    length-append (geometryBytes g) (eightBytes (s .k) ++ (eightBytes opened ++ s .keys))
+    let numbers = threeBytes (s .k) (bitOf (s .opened)) (s .start) in
+    length-append (geometryBytes g) (numbers ++ s .keys)
     ∙ ap₂ (λ (m n : ℕ). m + n) (threeBytes-length (g .b) (g .s) (g .p))
-    (length-append (eightBytes (s .k)) (eightBytes opened ++ s .keys)
-    ∙ ap₂ (λ (m n : ℕ). m + n) (eightBytes-length (s .k))
-    (length-append (eightBytes opened) (s .keys) ∙ ap₂ (λ (m n : ℕ). m + n) (eightBytes-length opened) e))
+    (length-append numbers (s .keys) ∙ ap₂ (λ (m n : ℕ). m + n) (threeBytes-length (s .k) (bitOf (s .opened)) (s .start)) e)
+
+-- Two sizes that are not both right.
+pub not-both : (a m b n : ℕ) → (a ≡ m → b ≡ n → ⊥) → (eqb a m && eqb b n) ≡ false
+not-both a m b n h = go (eqb a m) refl (eqb b n) refl
+  where
+    go : (x : Bool) → eqb a m ≡ x → (y : Bool) → eqb b n ≡ y → (x && y) ≡ false
+    go false e y f = refl
+    go true e false f = refl
+    go true e true f = absurd (h (eqb-true a m e) (eqb-true b n f))
 
 -- ---- reading back
 
@@ -86,28 +94,27 @@ geometry-fields g n = three-fields (g .b) (g .s) (g .p) (n .b-fits) (n .s-fits) 
 pub geometry-again : (g : Geometry) → Numbers64 g → geometryIn (geometryBytes g) ≡ g
 geometry-again g n = let f = geometry-fields g n in rw (f .first, f .second, f .third) refl
 
-pub session-fields : (s : Session) → Numbers64 (s .geometry) → s .k < 2 ^ 64 → length (s .keys) ≡ 480 → SessionFields s (sessionBytes s)
-session-fields s n h e =
+pub session-fields : (s : Session) → Fits s → SessionFields s (sessionBytes s)
+session-fields s f =
     let g = s .geometry in
+    let n = f .geometry-fits in
+    let opened = bitOf (s .opened) in
     let first = geometryBytes g in
-    let k = eightBytes (s .k) in
-    let opened = eightBytes (bitOf (s .opened)) in
-    let long = threeBytes-length (g .b) (g .s) (g .p) in
-    let tail = eightBytes-length (bitOf (s .opened)) in
-    let numbers = three-before (g .b) (g .s) (g .p) (k ++ (opened ++ s .keys)) (n .b-fits) (n .s-fits) (n .p-fits) in
-    let at-k : part 24 8 (sessionBytes s) ≡ k = part-next first k (opened ++ s .keys) 24 8 long (eightBytes-length (s .k)) in
-    let at-opened : part 32 8 (sessionBytes s) ≡ opened =
-    part-right first (k ++ (opened ++ s .keys)) 24 long 8 8 ∙ part-next k opened (s .keys) 8 8 (eightBytes-length (s .k)) tail in
+    let rest = threeBytes (s .k) opened (s .start) ++ s .keys in
+    let numbers = three-before (g .b) (g .s) (g .p) rest (n .b-fits) (n .s-fits) (n .p-fits) in
+    let more = three-before (s .k) opened (s .start) (s .keys) (f .k-fits) (bit-small (s .opened)) (f .start-fits) in
+    let behind : (x u : ℕ) → part (24 + x) u (sessionBytes s) ≡ part x u rest =
+    part-right first rest 24 (threeBytes-length (g .b) (g .s) (g .p)) in
     record {
       block-bytes = numbers .first;
       slice-blocks = numbers .second;
       slices = numbers .third;
-      volume = eight-again 24 (s .k) (sessionBytes s) at-k h;
-      is-open = eight-again 32 (bitOf (s .opened)) (sessionBytes s) at-opened (bit-small (s .opened));
+      volume = ap littleNumber (behind 0 8) ∙ more .first;
+      is-open = ap littleNumber (behind 8 8) ∙ more .second;
+      start-place = ap littleNumber (behind 16 8) ∙ more .third;
       data-keys =
-          part-right first (k ++ (opened ++ s .keys)) 24 long 16 480
-          ∙ part-right k (opened ++ s .keys) 8 (eightBytes-length (s .k)) 8 480
-          ∙ part-last opened (s .keys) 8 480 tail e;
+          behind 24 480
+          ∙ part-last (threeBytes (s .k) opened (s .start)) (s .keys) 24 480 (threeBytes-length (s .k) opened (s .start)) (f .keys-long);
     }
 
 -- 1 is read as true and 0 as false.
@@ -115,32 +122,32 @@ bit-again : (b : Bool) → eqb (bitOf b) 1 ≡ b
 bit-again true = refl
 bit-again false = refl
 
-pub session-again : (s : Session) → Numbers64 (s .geometry) → s .k < 2 ^ 64 → length (s .keys) ≡ 480 → sessionIn (sessionBytes s) ≡ s
-session-again s n h e =
-    let f = session-fields s n h e in
+pub session-again : (s : Session) → Fits s → sessionIn (sessionBytes s) ≡ s
+session-again s h =
+    let f = session-fields s h in
     let opened = ap (λ (x : ℕ). eqb x 1) (f .is-open) ∙ bit-again (s .opened) in
-    rw (f .block-bytes, f .slice-blocks, f .slices, f .volume, f .data-keys, opened) refl
+    rw (f .block-bytes, f .slice-blocks, f .slices, f .volume, f .start-place, f .data-keys, opened) refl
 
 -- ---- putting together
 
 -- Three numbers, each over what stood at its place.
-pub overlay-three : (r : List ℕ) (x y z : ℕ)
-    → overlay (overlay (overlay r 0 (eightBytes x)) 8 (eightBytes y)) 16 (eightBytes z) ≡ overlay r 0 (threeBytes x y z)
-overlay-three r x y z =
-    overlay-next (overlay r 0 (eightBytes x)) 8 8 (eightBytes y) (eightBytes z) (eightBytes-length y)
-    ∙ overlay-next r 0 8 (eightBytes x) (eightBytes y ++ eightBytes z) (eightBytes-length x)
+pub overlay-three : (r : List ℕ) (at x y z : ℕ)
+    → overlay (overlay (overlay r at (eightBytes x)) (at + 8) (eightBytes y)) (at + 16) (eightBytes z) ≡ overlay r at (threeBytes x y z)
+overlay-three r at x y z =
+    let here : at + 16 ≡ at + 8 + 8 = omega arith in
+    ap (λ (n : ℕ). overlay (overlay (overlay r at (eightBytes x)) (at + 8) (eightBytes y)) n (eightBytes z)) here
+    ∙ overlay-next (overlay r at (eightBytes x)) (at + 8) 8 (eightBytes y) (eightBytes z) (eightBytes-length y)
+    ∙ overlay-next r at 8 (eightBytes x) (eightBytes y ++ eightBytes z) (eightBytes-length x)
 
 -- A session over a struct of its size.
-pub overlay-session : (r : List ℕ) (s : Session) → length r ≡ 520 → length (s .keys) ≡ 480
-    → overlay (overlay (overlay (overlay r 0 (geometryBytes (s .geometry))) 24 (eightBytes (s .k))) 32 (eightBytes (bitOf (s .opened)))) 40 (s .keys)
+pub overlay-session : (r : List ℕ) (s : Session) → length r ≡ 528 → length (s .keys) ≡ 480
+    → overlay (overlay (overlay r 0 (geometryBytes (s .geometry))) 24 (threeBytes (s .k) (bitOf (s .opened)) (s .start))) 48 (s .keys)
     ≡ sessionBytes s
 overlay-session r s long e =
-    let first = geometryBytes (s .geometry) in
-    let k = eightBytes (s .k) in
-    let opened = eightBytes (bitOf (s .opened)) in
-    overlay-next (overlay (overlay r 0 first) 24 k) 32 8 opened (s .keys) (eightBytes-length (bitOf (s .opened)))
-    ∙ overlay-next (overlay r 0 first) 24 8 k (opened ++ s .keys) (eightBytes-length (s .k))
-    ∙ overlay-next r 0 24 first (k ++ (opened ++ s .keys)) (threeBytes-length (s .geometry .b) (s .geometry .s) (s .geometry .p))
+    let g = s .geometry in
+    let numbers = threeBytes (s .k) (bitOf (s .opened)) (s .start) in
+    overlay-next (overlay r 0 (geometryBytes g)) 24 24 numbers (s .keys) (threeBytes-length (s .k) (bitOf (s .opened)) (s .start))
+    ∙ overlay-next r 0 24 (geometryBytes g) (numbers ++ s .keys) (threeBytes-length (g .b) (g .s) (g .p))
     ∙ overlay-all r (sessionBytes s) (sessionBytes-length s e ∙ sym long)
 
 -- Three numbers over a struct of their size.
@@ -149,3 +156,9 @@ overlay-three-all r x y z long = overlay-all r (threeBytes x y z) (threeBytes-le
 
 pub threeBytes-same : {x x′ y y′ : ℕ} → x ≡ x′ → y ≡ y′ → (z : ℕ) → threeBytes x y z ≡ threeBytes x′ y′ z
 threeBytes-same e f z = ap₂ (λ (x y : ℕ). threeBytes x y z) e f
+
+-- ---- handing back
+
+-- A refusal other than 22 leaves the bytes.
+pub handedBack-kept : (number : ℕ) → (number ≡ 0 → ⊥) → (number ≡ 22 → ⊥) → (handed kept : List ℕ) → handedBack number handed kept ≡ kept
+handedBack-kept number served full handed kept = rw (ne-eqb number 0 served, ne-eqb number 22 full) refl

@@ -2,7 +2,7 @@
 -- length is a multiple of eight, so that C leaves no gap between them. Of each: whether bytes have its size, what they hold, and
 -- the bytes that are written to it. Assumes nothing.
 use Prim.Native.Nat.{ℕ}
-use mathlib.Core.Bool.{Bool, true, false}
+use mathlib.Core.Bool.{Bool, true, false, _||_}
 use mathlib.Core.List.{List, _++_}
 use lib.ListN.{length}
 use lib.Dec.{eqb}
@@ -10,10 +10,10 @@ use Rattle.model.specs.declared.Geometry.{Geometry}
 use Rattle.model.specs.declared.Session.{Session}
 use Rattle.model.specs.declared.Change.{Change}
 use Rattle.model.specs.declared.Change.the-variants.{Claimed, Rewritten}
-use Rattle.model.specs.Parts.{part}
+use Rattle.model.specs.Parts.{choose, part}
 use Rattle.model.specs.Answers.{changeSlice}
 use Rattle.model.specs.Write.{WriteResult}
-use Rattle.records.specs.Numbers.{eightAt, eightBytes, threeBytes}
+use Rattle.records.specs.Numbers.{eightAt, threeBytes}
 
 -- Whether bytes are as many as a struct has.
 abbrev pub sized : (size : ℕ) → List ℕ → Bool
@@ -35,16 +35,22 @@ geometryIn r = record { b = eightAt 0 r; s = eightAt 8 r; p = eightAt 16 r }
 abbrev pub geometryBytes : Geometry → List ℕ
 geometryBytes g = threeBytes (g .b) (g .s) (g .p)
 
--- ---- hiwalgam_session: its geometry, k, 1 where it is open, the 15 data keys
+-- ---- hiwalgam_session: its geometry, k, 1 where it is open, the start place, the 15 data keys
 
 abbrev pub sessionSized : List ℕ → Bool
-sessionSized r = sized 520 r
+sessionSized r = sized 528 r
 
 abbrev pub sessionIn : List ℕ → Session
-sessionIn r = record { geometry = geometryIn r; k = eightAt 24 r; keys = part 40 480 r; opened = eqb (eightAt 32 r) 1 }
+sessionIn r =
+    record { geometry = geometryIn r; k = eightAt 24 r; keys = part 48 480 r; opened = eqb (eightAt 32 r) 1; start = eightAt 40 r }
 
 abbrev pub sessionBytes : Session → List ℕ
-sessionBytes s = geometryBytes (s .geometry) ++ (eightBytes (s .k) ++ (eightBytes (bitOf (s .opened)) ++ s .keys))
+sessionBytes s = geometryBytes (s .geometry) ++ (threeBytes (s .k) (bitOf (s .opened)) (s .start) ++ s .keys)
+
+-- The bytes of a session after a call: those handed back where it was served or answered 22, which moves the start place (document
+-- 02, P2), else those kept.
+abbrev pub handedBack : (number : ℕ) → (handed kept : List ℕ) → List ℕ
+handedBack number handed kept = choose (eqb number 0 || eqb number 22) handed kept
 
 -- ---- hiwalgam_written: 1 where a slice was claimed, the slice that was claimed or rewritten, the places looked at
 

@@ -9,13 +9,20 @@ use Rattle.model.specs.declared.Change.the-variants.{Claimed, Rewritten}
 use Rattle.model.specs.Parts.{part}
 use Rattle.model.specs.Write.{WriteResult}
 use Rattle.records.specs.Numbers.{eightAt, threeBytes}
-use Rattle.records.specs.Structs.{bitOf, geometryIn, geometryBytes, sessionIn, sessionBytes, writtenBytes}
+use Rattle.records.specs.Structs.{bitOf, geometryIn, geometryBytes, sessionIn, sessionBytes, handedBack, writtenBytes}
 
 -- The numbers of a geometry are of 64 bits.
 pub record Numbers64 (g : Geometry) : Type 0 where
   pub b-fits : g .b < 2 ^ 64
   pub s-fits : g .s < 2 ^ 64
   pub p-fits : g .p < 2 ^ 64
+
+-- The numbers of a session are of 64 bits, and its keys are 480 bytes.
+pub record Fits (s : Session) : Type 0 where
+  pub geometry-fits : Numbers64 (s .geometry)
+  pub k-fits : s .k < 2 ^ 64
+  pub start-fits : s .start < 2 ^ 64
+  pub keys-long : length (s .keys) ≡ 480
 
 -- What a C program finds in the fields of a session, each at its byte.
 pub record SessionFields (s : Session) (r : List ℕ) : Type 0 where
@@ -24,7 +31,8 @@ pub record SessionFields (s : Session) (r : List ℕ) : Type 0 where
   pub slices : eightAt 16 r ≡ s .geometry .p
   pub volume : eightAt 24 r ≡ s .k
   pub is-open : eightAt 32 r ≡ bitOf (s .opened)
-  pub data-keys : part 40 480 r ≡ s .keys
+  pub start-place : eightAt 40 r ≡ s .start
+  pub data-keys : part 48 480 r ≡ s .keys
 
 -- And in a struct of three numbers.
 pub record Fields (x y z : ℕ) (r : List ℕ) : Type 0 where
@@ -34,9 +42,12 @@ pub record Fields (x y z : ℕ) (r : List ℕ) : Type 0 where
 
 -- What is written stands in the header's fields, reads back as it was, and is as long as its struct.
 pub record RecordLaws : Type 0 where
-  pub session-fields : (s : Session) → Numbers64 (s .geometry) → s .k < 2 ^ 64 → length (s .keys) ≡ 480 → SessionFields s (sessionBytes s)
-  pub session-again : (s : Session) → Numbers64 (s .geometry) → s .k < 2 ^ 64 → length (s .keys) ≡ 480 → sessionIn (sessionBytes s) ≡ s
-  pub session-long : (s : Session) → length (s .keys) ≡ 480 → length (sessionBytes s) ≡ 520
+  pub session-fields : (s : Session) → Fits s → SessionFields s (sessionBytes s)
+  pub session-again : (s : Session) → Fits s → sessionIn (sessionBytes s) ≡ s
+  pub session-long : (s : Session) → length (s .keys) ≡ 480 → length (sessionBytes s) ≡ 528
+  pub session-served : (handed kept : List ℕ) → handedBack 0 handed kept ≡ handed
+  pub session-full : (handed kept : List ℕ) → handedBack 22 handed kept ≡ handed
+  pub session-kept : (number : ℕ) → (number ≡ 0 → ⊥) → (number ≡ 22 → ⊥) → (handed kept : List ℕ) → handedBack number handed kept ≡ kept
   pub geometry-fields : (g : Geometry) → Numbers64 g → Fields (g .b) (g .s) (g .p) (geometryBytes g)
   pub geometry-again : (g : Geometry) → Numbers64 g → geometryIn (geometryBytes g) ≡ g
   pub written-claimed : (ψ probes : ℕ) → ψ < 2 ^ 64 → probes < 2 ^ 64 → Fields 1 ψ probes (writtenBytes (WriteResult.Served (Claimed ψ) probes))

@@ -5,9 +5,8 @@ ghost use Prim.Native.Nat.{_+_, _≤_, _<_};
 ghost use lib.ListN.{length};
 ghost use Rattle.model.specs.Parts.{part, overlay};
 ghost use Rattle.model.specs.Answers.{openResult, changeSlice, writeResult};
-ghost use Rattle.refusals.specs.Numbers.{unlessRefused};
 ghost use Rattle.records.specs.Numbers.{eightAt, eightBytes, threeBytes};
-ghost use Rattle.records.specs.Structs.{geometryIn, sessionIn, sessionBytes, bitOf, changeClaimed, writtenBytes};
+ghost use Rattle.records.specs.Structs.{geometryIn, sessionIn, sessionBytes, handedBack, bitOf, changeClaimed, writtenBytes};
 ghost use Rattle.records.specs.Answers.{openNumber, writeNumber};
 ghost use Rattle.records.specs.Theorems.{RecordLaws};
 use model::Change;
@@ -56,14 +55,14 @@ fn put_eight(r: &mut [u8], at: usize, n: usize)
     places::store(r, at, &bytes);
 }
 
-// Three numbers at the start of r.
-fn put_three(r: &mut [u8], x: usize, y: usize, z: usize)
-    requires { ⌜ 24 ≤ length (now r) ⌝ }
-    ensures { λ _. ⌜ now (r .exit) ≡ overlay (now (r .entry)) 0 (threeBytes x y z) ⌝ }
+// Three numbers over the bytes of r from place at on.
+fn put_three(r: &mut [u8], at: usize, x: usize, y: usize, z: usize)
+    requires { ⌜ at + 24 ≤ length (now r) ⌝ }
+    ensures { λ _. ⌜ now (r .exit) ≡ overlay (now (r .entry)) at (threeBytes x y z) ⌝ }
 {
-    put_eight(r, 0, x);
-    put_eight(r, 8, y);
-    put_eight(r, 16, z);
+    put_eight(r, at, x);
+    put_eight(r, at + 8, y);
+    put_eight(r, at + 16, z);
 }
 
 // 1 for true, 0 for false.
@@ -89,17 +88,17 @@ pub fn geometry_in(r: &[u8]) -> Geometry
 
 // The data keys in a session's struct.
 fn keys_in(r: &[u8]) -> [u8; 480]
-    requires { ⌜ length (now r) ≡ 520 ⌝ }
-    ensures { λ keys. ⌜ keys ≡ part 40 480 (now (r .entry)) ⌝ }
+    requires { ⌜ length (now r) ≡ 528 ⌝ }
+    ensures { λ keys. ⌜ keys ≡ part 48 480 (now (r .entry)) ⌝ }
 {
     let mut keys = [0u8; 480];
-    block::copy(&mut keys, &r[40..520]);
+    block::copy(&mut keys, &r[48..528]);
     keys
 }
 
 // The session in its struct.
 pub fn session_in(r: &[u8]) -> Session
-    requires { ⌜ length (now r) ≡ 520 ⌝ }
+    requires { ⌜ length (now r) ≡ 528 ⌝ }
     ensures { λ s. ⌜ s ≡ sessionIn (now (r .entry)) ⌝ }
 {
     Session {
@@ -107,28 +106,28 @@ pub fn session_in(r: &[u8]) -> Session
         k: eight_at(r, 24),
         keys: keys_in(r),
         opened: eight_at(r, 32) == 1,
+        start: eight_at(r, 40),
     }
 }
 
 // A session into its struct.
 pub fn put_session(r: &mut [u8], s: Session)
-    requires { ⌜ length (now r) ≡ 520 ⌝ }
+    requires { ⌜ length (now r) ≡ 528 ⌝ }
     ensures { λ _. ⌜ now (r .exit) ≡ sessionBytes s ⌝ }
 {
     let g = s.geometry;
-    put_three(r, g.b, g.s, g.p);
-    put_eight(r, 24, s.k);
-    put_eight(r, 32, bit_of(s.opened));
+    put_three(r, 0, g.b, g.s, g.p);
+    put_three(r, 24, s.k, bit_of(s.opened), s.start);
     let keys = s.keys;
-    places::store(r, 40, &keys);
+    places::store(r, 48, &keys);
 }
 
-// A session into its struct where the call was served; a refused call leaves the bytes.
+// A session into its struct where the call was served or found no free slice; another refusal leaves the bytes.
 pub fn hand_back(r: &mut [u8], s: Session, number: u8)
-    requires { ⌜ length (now r) ≡ 520 ⌝ }
-    ensures { λ _. ⌜ now (r .exit) ≡ unlessRefused number (sessionBytes s) (now (r .entry)) ⌝ }
+    requires { ⌜ length (now r) ≡ 528 ⌝ }
+    ensures { λ _. ⌜ now (r .exit) ≡ handedBack number (sessionBytes s) (now (r .entry)) ⌝ }
 {
-    if number == 0 {
+    if number == 0 || number == 22 {
         put_session(r, s);
     }
 }
@@ -162,13 +161,14 @@ pub fn put_written(r: &mut [u8], answer: WriteAnswer)
         WriteAnswer::Served { change, probes } => {
             put_three(
                 r,
+                0,
                 bit_of(change_claimed(change)),
                 change_slice(change),
                 probes,
             );
         }
         WriteAnswer::Refused { refusal: _, probes } => {
-            put_three(r, 0, 0, probes);
+            put_three(r, 0, 0, 0, probes);
         }
     }
 }

@@ -25,6 +25,9 @@ pub fn check_standing(device: usize, maps: usize, owners: usize, session: Sessio
     if 14 < session.k {
         return Answer::Refused(Refusal::NotOpen);
     }
+    if g.p < session.start {
+        return Answer::Refused(Refusal::NotOpen);
+    }
     if device != places::device_length(g) {
         return Answer::Refused(Refusal::DeviceLength);
     }

@@ -8,7 +8,7 @@ use lib.ListN.{length, getD, drop}
 use lib.Seq.{drop-cons}
 use lib.Dec.{ltb, eqb}
 use Rattle.model.specs.declared.Search.the-variants.{Free, Bad}
-use Rattle.model.specs.Write.{seen, search}
+use Rattle.model.specs.Search.{seen, search}
 
 module _ (owners : List ℕ) (p place : ℕ) (perm : List ℕ) (inside : place < length perm) where
   abbrev slice : ℕ

@@ -5,7 +5,7 @@ ghost use lib.ListN.{length, replicate, set};
 ghost use Rattle.refusals.specs.Numbers.{answerNumber};
 ghost use Rattle.model.specs.Session.{slot, entry, unmapped};
 ghost use Rattle.model.specs.Opening.{missing, settle, Tables};
-ghost use Rattle.model.specs.Write.{firstFree};
+ghost use Rattle.model.specs.Search.{firstFree, startPlace};
 ghost use Rattle.model.specs.Close.{anyBad};
 ghost use Rattle.tables.specs.Flagged.{flagged, anyZero};
 ghost use Rattle.tables.specs.Settled.{Settled};
@@ -136,6 +136,25 @@ pub fn first_free(owners: &[u8], perm: &[u32], start: usize) -> Search
         place += 1;
     }
     Search::Full
+}
+
+// The start place of an opening: the first free place, or P, the number of owners (document 02, P2).
+pub fn start_place(owners: &[u8], perm: &[u32]) -> usize
+    ensures { λ r. ⌜ r ≡ startPlace (length (now (owners .entry)))
+        (firstFree (now (owners .entry)) (length (now (owners .entry))) 0 (now (perm .entry))) ⌝ }
+{
+    let found = first_free(owners, perm, 0);
+    match found {
+        Search::Free { slice: _, place } => {
+            return place;
+        }
+        Search::Bad(_) => {
+            return owners.len();
+        }
+        Search::Full => {
+            return owners.len();
+        }
+    }
 }
 
 // ---- loading

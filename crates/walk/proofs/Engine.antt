@@ -16,7 +16,8 @@ use Rattle.model.specs.declared.Search.the-variants.{Free, Bad, Full}
 use Rattle.model.specs.Parts.{choose}
 use Rattle.model.specs.Geometry.{deviceLength}
 use Rattle.model.specs.Session.{Held, Outcome, geometry, blockCount, sliceOf, offsetOf, entryOf, asked, short, unless, idle}
-use Rattle.model.specs.Write.{firstFree, WriteResult, rewritten, rewriteOutcome, claimed, claimOutcome, writeRefusal, writeModel}
+use Rattle.model.specs.Search.{firstFree}
+use Rattle.model.specs.Write.{WriteResult, rewritten, rewriteOutcome, claimed, full, claimOutcome, writeRefusal, writeModel}
 use Rattle.model.specs.Conditions.{EntryFits, Enough}
 use Rattle.model.specs.Opening.{member}
 use Rattle.model.proofs.Tests.{equal-passes, badEntry-fits}
@@ -74,14 +75,14 @@ module _ (h : Held) (perm : List ℕ) (i a : ℕ) where
     endless-enough : (need : ℕ) → need ≤ 4096 → Enough (length endless) (h .position) need
     endless-enough need l = rw (zeros-length (4096 * 4096)) (omega arith)
 
-    -- Refused by a listed number, rewritten, or a slice claimed.
+    -- Refused by a listed number, full, rewritten, or a slice claimed.
     pub write-cases : (P : Outcome WriteResult → Type 0)
-        → ((n probes : ℕ) → member n answerNumbers ≡ true → P (idle h (WriteResult.Refused n probes)))
+        → ((n probes : ℕ) → member n answerNumbers ≡ true → P (idle h (WriteResult.Refused n probes))) → P (full h)
         → ((ψ : ℕ) → ψ < g .p → P (rewritten h i ψ j text endless))
         → ((ψ place : ℕ) → ψ < g .p → place < g .p → P (claimed h i (sliceOf g a) j ψ place text endless))
         → P (writeModel (deviceLength g) h i a text perm endless)
     unfolding writeModel
-    write-cases P refused re cl =
+    write-cases P refused none re cl =
         rw writeRefusal-asked
         (unless-cases P _ _ _ _ _ (λ e. refused 11 0 refl)
         (λ e. unless-cases P _ _ _ _ _ (λ e. refused 12 0 refl)
@@ -94,10 +95,10 @@ module _ (h : Held) (perm : List ℕ) (i a : ℕ) where
         rewrites ψ l =
             choose-cases P (short (length endless) (h .position) 16) (λ s. absurd (short-true _ _ _ s (endless-enough 16 (lit≤ tt)))) (λ s. re ψ l)
 
-        claims : (s : Search) → firstFree (h .owners) (g .p) 0 perm ≡ s → P (claimOutcome h i (sliceOf g a) j text endless s)
+        claims : (s : Search) → firstFree (h .owners) (g .p) (h .session .start) perm ≡ s → P (claimOutcome h i (sliceOf g a) j text endless s)
         claims (Bad place) e = refused 5 _ refl
-        claims Full e = refused 22 _ refl
+        claims Full e = none
         claims (Free ψ place) e =
             choose-cases P (short (length endless) (h .position) (g .b))
             (λ s. absurd (short-true _ _ _ s (endless-enough (g .b) (b-bounds g (fits .stands .usable .allowed) .1))))
-            (λ s. let found = firstFree-free _ _ perm ψ place e in cl ψ place (found .0) (omega (arith, found .1)))
+            (λ s. let found = firstFree-free _ _ perm _ ψ place e in cl ψ place (found .0) (omega (arith, found .1)))

@@ -9,7 +9,8 @@ use Rattle.block.specs.Bytes.{numberAfter, bigEndian}
 use Rattle.model.specs.declared.Geometry.{Geometry}
 use Rattle.model.specs.Geometry.{badGeometry, mapBlocks, headerBlocks, deviceLength, sliceStart, blockStart}
 use Rattle.model.specs.Session.{held, unmapped, standing, asked, short}
-use Rattle.model.specs.Write.{search, firstFree, writeRefusal, writeModel}
+use Rattle.model.specs.Search.{search, firstFree}
+use Rattle.model.specs.Write.{writeRefusal, writeModel}
 use Rattle.lines.specs.Hexadecimal.{value, digits, decode}
 use Rattle.claims.specs.State.{State, empty, allOpen, start}
 use Rattle.claims.proofs.Claims.{zeros-length}
@@ -23,9 +24,9 @@ abbrev size : Geometry
 size = record { b = 1024; s = 4; p = 4 }
 
 -- After the first two lines.
-abbrev walking : (maps owners : List ℕ) → (counted position : ℕ) → State
-walking maps owners counted position =
-    record { sized = true; shuffled = true; counted = counted; perm = 2 ∷ 0 ∷ 3 ∷ 1 ∷ []; held = held maps owners position (allOpen size) }
+abbrev walking : (maps owners : List ℕ) → (counted position place : ℕ) → State
+walking maps owners counted position place =
+    record { sized = true; shuffled = true; counted = counted; perm = 2 ∷ 0 ∷ 3 ∷ 1 ∷ []; held = held maps owners position (allOpen size place) }
 
 -- The map table after no claim, after one and after both.
 abbrev unclaimed : List ℕ
@@ -42,11 +43,11 @@ abbrev states : List State
 states =
     start
     ∷ record { sized = true; shuffled = false; counted = 0; perm = []; held = empty size }
-    ∷ walking unclaimed (0 ∷ 0 ∷ 0 ∷ 0 ∷ []) 0 0
-    ∷ walking claimed-once (0 ∷ 0 ∷ 1 ∷ 0 ∷ []) 1 1024
-    ∷ walking claimed-twice (2 ∷ 0 ∷ 1 ∷ 0 ∷ []) 2 2048
-    ∷ walking claimed-twice (2 ∷ 0 ∷ 1 ∷ 0 ∷ []) 3 2064
-    ∷ walking claimed-twice (2 ∷ 0 ∷ 1 ∷ 0 ∷ []) 4 2064
+    ∷ walking unclaimed (0 ∷ 0 ∷ 0 ∷ 0 ∷ []) 0 0 0
+    ∷ walking claimed-once (0 ∷ 0 ∷ 1 ∷ 0 ∷ []) 1 1024 1
+    ∷ walking claimed-twice (2 ∷ 0 ∷ 1 ∷ 0 ∷ []) 2 2048 2
+    ∷ walking claimed-twice (2 ∷ 0 ∷ 1 ∷ 0 ∷ []) 3 2064 2
+    ∷ walking claimed-twice (2 ∷ 0 ∷ 1 ∷ 0 ∷ []) 4 2064 2
     ∷ []
 
 -- Line n leads from its state to the next, with its answer.

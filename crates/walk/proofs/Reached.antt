@@ -4,7 +4,7 @@ use mathlib.Core.Path.{_≡_, refl, _∙_}
 use mathlib.Core.Bool.{Bool, true, false, and-eq-true-iff, false≢true}
 use mathlib.Core.Logic.{_⊎_, inl, inr, ⊎-elim}
 use mathlib.Core.List.{List, [], _∷_}
-use native.Mathlib.Nat.{div-lt-iff-lt-mul}
+use native.Mathlib.Nat.{div-lt-iff-lt-mul, le-refl}
 use native.Mathlib.Omega.{arith}
 use lib.Dec.{ltb, eqb, lit≤}
 use lib.ListN.{length, getD, set, replicate, length-set, length-replicate}
@@ -13,7 +13,7 @@ use Rattle.refusals.specs.Numbers.{refuse}
 use Rattle.model.specs.declared.Geometry.{Geometry}
 use Rattle.model.specs.declared.Session.{Session}
 use Rattle.model.specs.Geometry.{Allowed, badGeometry, deviceLength, blockStart}
-use Rattle.model.specs.Session.{Held, geometry, offsetOf, unmapped}
+use Rattle.model.specs.Session.{Held, geometry, offsetOf, unmapped, startingAt}
 use Rattle.model.specs.Opening.{member}
 use Rattle.model.specs.Conditions.{EntryFits}
 use Rattle.model.proofs.Tests.{badGeometry-none}
@@ -61,11 +61,23 @@ empty-fits g ok =
     record {
       stands =
           record {
-            usable = record { opened = refl; allowed = ok; top = lit≤ tt };
+            usable = record { opened = refl; allowed = ok; top = lit≤ tt; place = omega arith };
             long = refl;
             tables = (length-replicate _ _, length-replicate _ _);
           };
       entries = getD-replicate-every (EntryFits g) (15 * g .p) unmapped (inl refl) (inr (ok .slices-least));
+    }
+
+-- Another start place that is allowed.
+started-fits : (maps owners : List ℕ) (s : Session) → Fits maps owners s → (start : ℕ) → start ≤ s .geometry .p
+    → Fits maps owners (startingAt start s)
+started-fits maps owners s f start l =
+    let t = f .stands in
+    let u = t .usable in
+    record {
+      stands =
+          record { usable = record { opened = u .opened; allowed = u .allowed; top = u .top; place = l }; long = t .long; tables = t .tables };
+      entries = f .entries;
     }
 
 claimed-fits : (maps owners : List ℕ) (s : Session) → Fits maps owners s → (at ψ owner : ℕ) → ψ < s .geometry .p
@@ -166,11 +178,12 @@ module _ (w : State) (s : SoundState w) where
         write-cases h (w .perm) i a fits (s .places shuffled) (omega arith)
         (λ o. Good (record { state = leaving (o .held); answer = printed g (offsetOf g a) (o .held .position) (o .answer) }))
         (λ n probes l. record { listed = byte n l; sound = leaving-sound h refl (omega arith) (s .fits) })
+        (record { listed = byte 22 refl; sound = leaving-sound _ refl (omega arith) (λ e. started-fits _ _ _ fits (g .p) (le-refl (g .p))) })
         (λ ψ l. record { listed = fitting ψ 0 _ l (omega arith) (omega arith); sound = leaving-sound _ refl (omega arith) (s .fits) })
         (λ ψ place l m.
         record {
           listed = fitting ψ _ _ l (omega arith) (omega arith);
-          sound = leaving-sound _ refl (omega arith) (λ e. claimed-fits _ _ _ fits _ ψ _ l);
+          sound = leaving-sound _ refl (omega arith) (λ e. claimed-fits _ _ _ (started-fits _ _ _ fits (place + 1) (omega arith)) _ ψ _ l);
         })
 
   claim-good : (fields : List ℕ) → Good (onClaim w fields)

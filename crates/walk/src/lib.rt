@@ -46,6 +46,7 @@ pub fn start() -> Walk
         shuffled: false,
         counted: 0,
         position: 0,
+        start: 0,
     }
 }
 

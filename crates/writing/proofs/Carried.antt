@@ -2,24 +2,20 @@
 --     carry-out-asks     what carrying out needs, from what was decided and drawn
 --     write-ensures      what it leaves is what the model's write leaves
 use Prim.Native.Nat.{ℕ}
-use mathlib.Core.Path.{_≡_, refl, sym, ap, _∙_}
+use mathlib.Core.Path.{_≡_, refl, ap, _∙_}
 use mathlib.Core.List.{List}
 use lib.ListN.{length}
-use lib.Seq.{take-length}
 use Rattle.model.specs.declared.Session.{Session}
 use Rattle.model.specs.declared.Written.{Written}
-use Rattle.model.specs.Parts.{part}
 use Rattle.model.specs.Session.{held}
 use Rattle.model.specs.Write.{WriteResult, writeModel}
 use Rattle.model.specs.Answers.{writeResult, Leaves}
 use Rattle.tape.specs.Draw.{drawn, past}
 use Rattle.tape.proofs.Draws.{drawn-enough, drawn-length, past-enough, past-none}
 use Rattle.deciding.specs.declared.Decision.{Decision}
-use Rattle.deciding.specs.declared.Decision.the-variants.{Refused, Rewrite, Claim}
+use Rattle.deciding.specs.declared.Decision.the-variants.{Refused, Full, Rewrite, Claim}
 use Rattle.deciding.specs.Decided.{Decided, needed, carried, Ready}
-
-pub part-all : (s : List ℕ) (n : ℕ) → length s ≡ n → part 0 n s ≡ s
-part-all s n e = rw (sym e) (take-length s)
+use Rattle.storing.proofs.Whole.{part-all}
 
 module _ (device : ℕ) (maps owners text perm tape : List ℕ) (s : Session) (i a at : ℕ) where
   abbrev Says : Decision → Type 0
@@ -27,6 +23,7 @@ module _ (device : ℕ) (maps owners text perm tape : List ℕ) (s : Session) (i
 
   ready : (d : Decision) → Says d → Ready device maps owners s i a (length text) (length (drawn tape at (needed s d))) d
   ready (Refused r probes) e = tt
+  ready Full e = e .1
   ready (Rewrite ψ) e =
       record { perm = length perm; none = e .none; slice = e .slice; drawn-all = drawn-length tape at 16 (e .enough) }
   ready (Claim ψ place) e = (
@@ -42,6 +39,9 @@ module _ (device : ℕ) (maps owners text perm tape : List ℕ) (s : Session) (i
         (past tape at (needed s d)) s′
     leaves (Refused r probes) e l =
         rw e
+        (record { answered = l .answered; stored = l .stored; mapped = l .mapped; owned = l .owned; moved = past-none tape at; handed = l .handed })
+    leaves Full e l =
+        rw (e .0)
         (record { answered = l .answered; stored = l .stored; mapped = l .mapped; owned = l .owned; moved = past-none tape at; handed = l .handed })
     leaves (Rewrite ψ) e l =
         let bytes = part-all (drawn tape at 16) 16 (drawn-length tape at 16 (e .enough)) ∙ drawn-enough tape at 16 (e .enough) in

@@ -15,7 +15,7 @@ use Rattle.deciding.specs.declared.Decision.{Decision}
 use Rattle.deciding.specs.declared.Decision.the-variants.{Rewrite, Claim}
 use Rattle.deciding.specs.Decided.{Decided}
 use Rattle.claims.specs.State.{allOpen, zeros, endless}
-use Rattle.claims.proofs.Claims.{zeros-length, refusal-answers, rewrite-answers, claim-answers}
+use Rattle.claims.proofs.Claims.{zeros-length, refusal-answers, full-answers, rewrite-answers, claim-answers}
 use Rattle.claims.proofs.claim.Statement.{statement}
 use Rattle.claims.proofs.claim.Tie as tie
 
@@ -34,6 +34,9 @@ module _ (c : tie.After-decide) where
   abbrev g : Geometry
   g = start .args .walk .geometry
 
+  abbrev session : Session
+  session = allOpen g (start .args .walk .start)
+
   -- A decision on a device of so many bytes and in a session.
   abbrev Says : ℕ → Session → Decision → Type 0
   Says device s d =
@@ -41,9 +44,9 @@ module _ (c : tie.After-decide) where
       let lent = held (take (15 * g .p) (a .maps .now)) (take (g .p) (a .owners .now)) (a .walk .position) s in
       Decided device lent (a .volume) (a .address) (zeros (g .b)) (take (g .p) (a .perm .now)) endless d
 
-  says : (d : Decision) → c .decide .result ≡ d → Says (deviceLength g) (allOpen g) d
+  says : (d : Decision) → c .decide .result ≡ d → Says (deviceLength g) session d
   says d e =
-      subst (λ (n : ℕ). Says n (allOpen g) d) (sized .device-length .ensures)
+      subst (λ (n : ℕ). Says n session d) (sized .device-length .ensures)
       (subst (λ (s : Session). Says (sized .device-length .result) s d) (c .before .all-open .ensures)
       (subst (Says (sized .device-length .result) (c .before .all-open .result)) e
       (c .decide .ensures (zeros (g .b)) endless (zeros-length (g .b)) (zeros-length (4096 * 4096)))))
@@ -54,7 +57,7 @@ module _ (c : tie.After-decision2) where
   abbrev by : tie.After-decide
   by = c .before .before
 
-  rewrites : Says by (deviceLength (g by)) (allOpen (g by)) (Rewrite (c .decision2 .given .0 .0))
+  rewrites : Says by (deviceLength (g by)) (session by) (Rewrite (c .decision2 .given .0 .0))
   rewrites = says by _ (c .decision2 .given .1)
 
 serve-requires : tie.Need-serve-requires
@@ -65,6 +68,7 @@ serve-requires c κs =
       rewrites decided .slice,
       offsetOf-lt (s .args .walk .geometry) (s .pre .0) (s .args .address),
       omega (arith, rewrites decided .enough, zeros-length (4096 * 4096)),
+      omega (arith, writeRefusal-none _ _ _ _ _ _ _ _ (rewrites decided .none) .stands .usable .place),
     )
 
 -- ---- a claim
@@ -73,11 +77,11 @@ module _ (c : tie.After-decision3) where
   abbrev by′ : tie.After-decide
   by′ = c .before .before
 
-  claims : Says by′ (deviceLength (g by′)) (allOpen (g by′)) (Claim (c .decision3 .given .0 .0) (c .decision3 .given .0 .1 .0))
+  claims : Says by′ (deviceLength (g by′)) (session by′) (Claim (c .decision3 .given .0 .0) (c .decision3 .given .0 .1 .0))
   claims = says by′ _ (c .decision3 .given .1)
 
   fit : let a = start by′ .args in
-      Writable (deviceLength (g by′)) (take (15 * g by′ .p) (a .maps .now)) (take (g by′ .p) (a .owners .now)) (allOpen (g by′))
+      Writable (deviceLength (g by′)) (take (15 * g by′ .p) (a .maps .now)) (take (g by′ .p) (a .owners .now)) (session by′)
       (a .volume) (a .address) (length (zeros (g by′ .b))) (length (take (g by′ .p) (a .perm .now)))
   fit = writeRefusal-none _ _ _ _ _ _ _ _ (claims .0 .none)
 
@@ -103,12 +107,13 @@ serving c = assigning (c .before .before .before .before .before .before)
 
 serve-requires-2 : tie.Need-serve-requires-2
 serve-requires-2 c κs =
-    let decided = serving c in
+    let decided = serving (c .before) in
     let s = start (by′ decided) in (
       s .pre .0,
       claims decided .0 .slice,
       offsetOf-lt (s .args .walk .geometry) (s .pre .0) (s .args .address),
       omega (arith, claims decided .0 .enough, zeros-length (4096 * 4096)),
+      omega (arith, claims decided .1 .from, claims decided .1 .inside),
     )
 
 -- ---- what is left
@@ -123,22 +128,31 @@ returns c =
 
 returns-2 : tie.Need-returns-2
 returns-2 c =
+    let moved = c .before in
+    let decided = moved .before .before .before in
+    let s = start decided in
+    let a = s .args in
+    full-answers (a .walk) (a .maps .now) (a .owners .now) (a .perm .now) (a .volume) (a .address) (s .pre .1)
+    (says decided _ (moved .before .enum-told .given .1) .0) (moved .move-to .ensures) (c .refuse2 .ensures)
+
+returns-3 : tie.Need-returns-3
+returns-3 c =
     let decided = c .before .before .before in
     let s = start (by decided) in
     let a = s .args in
     rewrite-answers (a .walk) (a .maps .now) (a .owners .now) (a .perm .now) (a .volume) (a .address) (s .pre .1) _ _ _
     (rewrites decided .outcome) (c .serve .ensures)
 
-returns-3 : tie.Need-returns-3
-returns-3 c =
-    let known = c .before in
+returns-4 : tie.Need-returns-4
+returns-4 c =
+    let known = c .before .before in
     let decided = serving known in
     let assigned = known .before .before .before .before .before in
     let s = start (by′ decided) in
     let a = s .args in
     claim-answers (a .walk) (a .maps .now) (a .owners .now) (a .perm .now) (a .volume) (a .address) (s .pre .1) _ _ _ _ _ _
-    (claims decided .0 .outcome) (slot-below decided) (claims decided .0 .slice) (assigned .assign .ensures .0) (assigned .assign .ensures .1)
-    (c .serve2 .ensures)
+    (claims decided .0 .outcome) (slot-below decided) (claims decided .0 .slice) (claims decided .1 .from)
+    (assigned .assign .ensures .0) (assigned .assign .ensures .1) (c .serve2 .ensures)
 
 pub claim-spec : {M : Type 1} → statement M
 claim-spec =
@@ -156,13 +170,17 @@ claim-spec =
     (λ c. search needs)
     (λ c κs. search needs)
     (λ c. search needs)
+    (λ c κs. search needs)
+    (λ c κs. search needs)
+    (λ c. search needs)
     (λ c. search needs)
     serve-requires
     (λ c. search needs)
     (λ c. search needs)
     assign-requires
-    (λ c. start (by′ (assigning (c .before .before .before .before .before .before))) .pre .0 .slice-least)
-    (λ c. let decided = serving c in omega (arith, claims decided .1, start (by′ decided) .pre .0 .slices-most))
+    (λ c. start (by′ (serving c)) .pre .0 .slice-least)
+    (λ c. let decided = serving c in omega (arith, claims decided .1 .inside, start (by′ decided) .pre .0 .slices-most))
+    (λ c. let decided = serving (c .before) in omega (arith, claims decided .1 .from))
     serve-requires-2
     (λ c. search needs)
     (λ c. search needs)
@@ -172,4 +190,7 @@ claim-spec =
     returns-2
     (λ c. search needs)
     (λ c. search needs)
-    returns-3)
+    returns-3
+    (λ c. search needs)
+    (λ c. search needs)
+    returns-4)

@@ -1,12 +1,11 @@
 -- `deciding::decide` meets its contract: each outcome by its law (`Outcomes.antt`). Assumes nothing.
 use Prim.Native.Nat.{ℕ, _<_}
 use mathlib.Core.Path.{_≡_, sym, ap, _∙_}
-use native.Mathlib.Omega.{arith}
 use lib.ListN.{length}
 use borrow.Author.Needs.{needs}
 use Rattle.refusals.specs.Numbers.{answerNumber}
 use Rattle.model.specs.Session.{slot, sliceOf}
-use Rattle.model.specs.Write.{firstFree}
+use Rattle.model.specs.Search.{firstFree}
 use Rattle.model.proofs.Requests.{Writable, writeRefusal-none, asked-slot}
 use Rattle.deciding.proofs.Outcomes.{refused-first, rewrite-short, rewrite-served}
 use Rattle.deciding.proofs.Outcomes.{claim-bad, bad-place, claim-full, free-place, claim-short, claim-served}
@@ -32,10 +31,12 @@ abbrev told : tie.After-first-free → tie.After-enum-told
 told c = c .before .before .before .before .before .before
 
 module _ (c : tie.After-first-free) where
-  found : let a = start (told c) .args in firstFree (a .owners .now) (a .session .geometry .p) 0 (a .perm .now) ≡ c .first-free .result
+  found : let a = start (told c) .args in
+      firstFree (a .owners .now) (a .session .geometry .p) (a .session .start) (a .perm .now) ≡ c .first-free .result
   found =
       let a = start (told c) .args in
-      ap (λ (p : ℕ). firstFree (a .owners .now) p 0 (a .perm .now)) (sym (fit (told c) .stands .tables .1)) ∙ sym (c .first-free .ensures)
+      ap (λ (p : ℕ). firstFree (a .owners .now) p (a .session .start) (a .perm .now)) (sym (fit (told c) .stands .tables .1))
+      ∙ sym (c .first-free .ensures)
 
 -- ---- needs
 
@@ -57,29 +58,28 @@ returns-3 c =
     rewrite-served _ _ _ _ _ _ _ _ _ _ (fit (entry .before .before .before)) _ (entry .entry-at .ensures) (c .before .before .if1 .taken)
     (sym (c .before .is-short .ensures) ∙ c .if2 .left)
 
-add-t25 : tie.Need-add-t25
-add-t25 c =
+probes-to-requires : tie.Need-probes-to-requires
+probes-to-requires c κs =
     let looked = c .before .before .before in
-    let ok = fit (told looked) .stands .usable .allowed in
-    omega (arith, ok .slices-most, bad-place _ _ _ 0 _ _ _ _ _ 0 (fit (told looked)) _ (found looked ∙ c .before .found .given .1))
+    bad-place _ _ _ 0 _ _ _ _ _ 0 (fit (told looked)) _ (found looked ∙ c .before .found .given .1)
 
-free-small : (c : tie.After-found2) → c .found2 .given .0 .1 .0 < 4096
-free-small c =
-    let looked = c .before .before in
-    let ok = fit (told looked) .stands .usable .allowed in
-    omega (arith, ok .slices-most, free-place _ _ _ 0 _ _ _ _ _ 0 (fit (told looked)) _ _ (found looked ∙ c .found2 .given .1))
+probes-to-requires-2 : tie.Need-probes-to-requires-2
+probes-to-requires-2 c κs =
+    let looked = c .before .before .before .before .before in
+    free-place _ _ _ 0 _ _ _ _ _ 0 (fit (told looked)) _ _ (found looked ∙ c .before .before .before .found2 .given .1)
 
 returns-4 : tie.Need-returns-4
 returns-4 c =
-    let looked = c .before .before .before .before .before in
+    let looked = c .before .before .before .before .before .before in
     claim-short _ _ _ _ _ _ _ _ _ _ (fit (told looked)) _ (looked .before .before .before .entry-at .ensures) (looked .before .if1 .left) _
-    (found looked) _ _ (c .before .before .before .found2 .given .1) (sym (c .before .is-short2 .ensures) ∙ c .if3 .taken)
+    (found looked) _ _ (c .before .before .before .before .found2 .given .1) (sym (c .before .before .is-short2 .ensures) ∙ c .before .if3 .taken) _
+    (c .probes-to2 .ensures)
 
 returns-5 : tie.Need-returns-5
 returns-5 c =
-    let looked = c .before .before .before in
+    let looked = c .before .before .before .before in
     claim-bad _ _ _ _ _ _ _ _ _ _ (fit (told looked)) _ (looked .before .before .before .entry-at .ensures) (looked .before .if1 .left) _
-    (found looked) _ (c .before .found .given .1)
+    (found looked) _ (c .before .before .found .given .1) _ (c .probes-to .ensures)
 
 returns-6 : tie.Need-returns-6
 returns-6 c =
@@ -98,5 +98,5 @@ decide-spec =
     tie.close
     (tie.spec (λ c κs. search needs) (λ c. search needs) returns (λ c. search needs)
     (λ c. fit (c .before .before) .stands .usable .allowed .slice-least) (λ c κs. slot-below (c .before .before)) (λ c κs. search needs) returns-2
-    returns-3 (λ c κs. search needs) (λ c. search needs) add-t25 (λ c. search needs) (λ c. search needs) (λ c κs. search needs)
-    (λ c. omega (arith, free-small (c .before .before .before))) returns-4 returns-5 returns-6 returns-7)
+    returns-3 (λ c κs. search needs) (λ c. search needs) probes-to-requires (λ c. search needs) (λ c. search needs) (λ c κs. search needs)
+    probes-to-requires-2 returns-4 returns-5 returns-6 returns-7)

@@ -66,10 +66,10 @@ use Rattle.tape.proofs.draw as draw′
 use Rattle.tape.proofs.draw.Symbol as draw-def
 use Rattle.tape.proofs.draw.Symbol.{name as #draw}
 use Rattle.tape.proofs.draw.Met as draw-thm
-use Rattle.formatting.proofs.carry_out as carry-out′
-use Rattle.formatting.proofs.carry_out.Symbol as carry-out-def
-use Rattle.formatting.proofs.carry_out.Symbol.{name as #carry-out}
-use Rattle.formatting.proofs.carry_out.Met as carry-out-thm
+use Rattle.making.proofs.carry_out as carry-out′
+use Rattle.making.proofs.carry_out.Symbol as carry-out-def
+use Rattle.making.proofs.carry_out.Symbol.{name as #carry-out}
+use Rattle.making.proofs.carry_out.Met as carry-out-thm
 use Rattle.formatting.proofs.format.Key.{name as #outer}
 use Rattle.formatting.proofs.format as outer
 use Rattle.formatting.proofs.format.Statement as stated
@@ -473,4 +473,4 @@ format-spec 𝓤 H 𝓜 𝓖 𝓡 =
     (cited 𝓤 H (draw-contract 𝓤 H (𝓖 .A) (𝓜 .mem) (𝓡 .run)) 𝓜 𝓡 code.env #draw draw-def.routine
     code.calls-tape·draw (draw-thm.met 𝓤 H 𝓜 𝓖 𝓡))
     (cited 𝓤 H (carry-out-contract 𝓤 H (𝓖 .A) (𝓜 .mem) (𝓡 .run)) 𝓜 𝓡 code.env #carry-out carry-out-def.routine
-    code.calls-formatting·carry-out (carry-out-thm.met 𝓤 H 𝓜 𝓖 𝓡)))
+    code.calls-making·carry-out (carry-out-thm.met 𝓤 H 𝓜 𝓖 𝓡)))

@@ -5,7 +5,7 @@ use native.Mathlib.Omega.{arith}
 use borrow.Author.Needs.{needs}
 use Rattle.model.specs.Format.{formatNeed}
 use Rattle.model.proofs.Bounds.{mapBlocks-small, deviceLength-small}
-use Rattle.formatting.proofs.Draws.{volumes-small}
+use Rattle.formatting.proofs.Counts.{volumes-small}
 use Rattle.formatting.proofs.tape_need.Statement.{statement}
 use Rattle.formatting.proofs.tape_need.Tie as tie
 

@@ -5,7 +5,7 @@ use borrow.Author.Needs.{needs}
 use Rattle.refusals.specs.Numbers.{answerNumber}
 use Rattle.model.specs.Geometry.{Allowed}
 use Rattle.model.proofs.Tests.{badGeometry-none}
-use Rattle.claims.proofs.Claims.{geometry-answers, length-answers}
+use Rattle.claims.proofs.Claims.{geometry-answers, place-answers, length-answers}
 use Rattle.frames.proofs.check_and_claim.Statement.{statement}
 use Rattle.frames.proofs.check_and_claim.Tie as tie
 
@@ -25,16 +25,25 @@ returns c =
 
 returns-2 : tie.Need-returns-2
 returns-2 c =
-    let told = c .before .before .before in
+    let told = c .before .before .before .before in
     let s = start (told .before .before) in
     let a = s .args in
-    length-answers (a .walk) (a .maps .now) (a .owners .now) (a .perm .now) (a .volume) (a .address) (s .pre .0) (allowed told) (s .pre .1)
+    place-answers (a .walk) (a .maps .now) (a .owners .now) (a .perm .now) (a .volume) (a .address) (s .pre .0) (allowed told)
     (c .before .if1 .taken) (c .refuse2 .ensures)
+
+returns-3 : tie.Need-returns-3
+returns-3 c =
+    let inside = c .before .before .before in
+    let told = inside .before .before .before in
+    let s = start (told .before .before) in
+    let a = s .args in
+    length-answers (a .walk) (a .maps .now) (a .owners .now) (a .perm .now) (a .volume) (a .address) (s .pre .0) (allowed told)
+    (inside .if1 .left) (s .pre .1) (c .before .if2 .taken) (c .refuse3 .ensures)
 
 claim-requires : tie.Need-claim-requires
 claim-requires c κs =
     let tested = c .before .before in
-    let told = tested .before .before in
+    let told = tested .before .before .before .before .before in
     let pre = start (told .before .before) .pre in
     (allowed told, pre .0, omega (arith, pre .1), omega (arith, pre .1), omega (arith, pre .2), omega (arith, pre .3))
 
@@ -49,6 +58,8 @@ check-and-claim-spec =
     (λ c. search needs)
     (λ c κs. search needs)
     returns-2
+    (λ c κs. search needs)
+    returns-3
     claim-requires
     (λ c. search needs)
     (λ c. search needs)

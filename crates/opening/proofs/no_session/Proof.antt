@@ -10,7 +10,7 @@ use Rattle.opening.proofs.no_session.Tie as tie
 
 -- A closed session with numbers 0.
 abbrev closedWith : List ℕ → Session
-closedWith keys = record { geometry = record { b = 0; s = 0; p = 0 }; k = 0; keys = keys; opened = false }
+closedWith keys = record { geometry = record { b = 0; s = 0; p = 0 }; k = 0; keys = keys; opened = false; start = 0 }
 
 pub no-session-spec : {M : Type 1} → statement M
 no-session-spec = tie.close (tie.spec (λ c κs. search needs) (λ c. ap closedWith (c .no-keys .ensures)))

@@ -9,7 +9,7 @@ use Rattle.model.specs.Session.{unmapped}
 use Rattle.model.specs.Opening.{openRefusal, NotOpened}
 use Rattle.model.specs.Answers.{openResult}
 use Rattle.model.proofs.Requests.{Handed, openRefusal-none}
-use Rattle.opening.proofs.Refusals.{answer-served}
+use Rattle.chaining.proofs.Answers.{answer-served}
 use Rattle.opening.proofs.Outcomes.{openModel-refused, openModel-served, leaves-refused, leaves-by}
 use Rattle.opening.proofs.open.Statement.{statement}
 use Rattle.opening.proofs.open.Tie as tie

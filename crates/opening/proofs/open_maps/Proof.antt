@@ -10,8 +10,8 @@ use Rattle.model.specs.Session.{unmapped}
 use Rattle.model.specs.Opening.{mapEntries, load, loadMaps, NotOpened, noMaps, noOwners}
 use Rattle.model.specs.Answers.{openResult}
 use Rattle.tables.specs.Settled.{Settled}
-use Rattle.opening.proofs.Refusals.{answer-refused, answer-served}
-use Rattle.opening.proofs.Loads.{settled-tables, settled-spoilt, settled-by}
+use Rattle.chaining.proofs.Answers.{answer-refused, answer-served}
+use Rattle.loading.proofs.Loads.{settled-tables, settled-spoilt, settled-by}
 use Rattle.opening.proofs.Outcomes.{withTables-spoilt, leaves-refused, leaves-opened}
 use Rattle.opening.proofs.open_maps.Statement.{statement}
 use Rattle.opening.proofs.open_maps.Tie as tie
@@ -24,7 +24,7 @@ owners-length : (s : tie.Start) → length (s .args .owners .now) ≡ s .args .g
 owners-length s = ap length (s .pre .4) ∙ length-replicate {A = ℕ} (s .args .g .p) 0
 
 abbrev start : tie.After-load-maps-arg2 → tie.Start
-start c = c .before .before .before .before .before .before
+start c = c .before .before .before .before .before .before .before
 
 -- What was loaded.
 settled : (c : tie.After-load-maps)
@@ -54,7 +54,7 @@ returns c =
     let a = s .args in
     let bad = refusing .bad .given .1 in
     leaves-refused (noMaps (a .g)) (noOwners (a .g)) (answerNumber (loaded .load-maps .result))
-    (withTables-spoilt (a .g) (a .k) (a .t4) (settled-spoilt _ _ _ _ (settled loaded) (answer-refused bad)))
+    (withTables-spoilt (a .g) (a .perm .now) (a .k) (a .t4) (settled-spoilt _ _ _ _ (settled loaded) (answer-refused bad)))
     (ap openResult (c .refused .ensures .0) ∙ sym (ap (λ x. NotOpened (answerNumber x)) bad))
     (unmapping .unmap .ensures ∙ ap (λ (n : ℕ). replicate n unmapped) (loaded .load-maps .kept .1 .1 .1 .1 .0 ∙ maps-length s))
     (clearing .clear .ensures ∙ ap (λ (n : ℕ). replicate n 0) (loaded .load-maps .kept .1 .1 .1 .1 .1 .0 ∙ owners-length s))
@@ -62,9 +62,13 @@ returns c =
 
 returns-2 : tie.Need-returns-2
 returns-2 c =
-    let loaded = c .before .before .before .before .before .before in
-    let a = start (loaded .before) .args in
-    leaves-opened (a .g) (a .k) (a .t4) (settled-tables _ _ _ _ (settled loaded) (answer-served (c .enum-told .given .1)))
+    let told = c .before .before in
+    let loaded = told .before .before .before .before .before .before in
+    let s = start (loaded .before) in
+    let a = s .args in
+    leaves-opened (a .g) (a .perm .now) (a .k) (a .t4)
+    (settled-tables _ _ _ _ (settled loaded) (answer-served (told .enum-told .given .1)))
+    (loaded .load-maps .kept .1 .1 .1 .1 .1 .0 ∙ owners-length s) _ (c .start-place .ensures)
 
 pub open-maps-spec : {M : Type 1} → statement M
 open-maps-spec =
@@ -80,6 +84,7 @@ open-maps-spec =
     (λ c. search needs)
     returns
     (λ c. search needs)
+    (λ c κs. search needs)
     (λ c. search needs)
     (λ c. search needs)
     returns-2)

@@ -5,7 +5,7 @@ use borrow.Author.Needs.{needs}
 use Rattle.refusals.proofs.Positive.{answer-positive}
 use Rattle.model.specs.Geometry.{Allowed, deviceLength}
 use Rattle.model.proofs.Tests.{badGeometry-none}
-use Rattle.opening.proofs.Refusals.{answer-served}
+use Rattle.chaining.proofs.Answers.{answer-served}
 use Rattle.opening.proofs.Refusals.{wrong-geometry, wrong-device, wrong-key, wrong-maps, wrong-owners}
 use Rattle.opening.proofs.Refusals.{wrong-places, slice-missing, none-missing}
 use Rattle.opening.proofs.open_refusal.Statement.{statement}

@@ -9,7 +9,7 @@ use Rattle.model.specs.Geometry.{cellOf, headerOf}
 use Rattle.model.specs.Opening.{At, firstCell, NotOpened, noMaps, noOwners}
 use Rattle.model.specs.Answers.{openResult}
 use Rattle.model.proofs.Bounds.{cell-fits}
-use Rattle.opening.proofs.Refusals.{answer-refused, answer-served}
+use Rattle.chaining.proofs.Answers.{answer-refused, answer-served}
 use Rattle.sealing.proofs.Cells.{found-at, found-below, found-none}
 use Rattle.opening.proofs.Outcomes.{withCell-none, withCell-broken, withCell-served, leaves-refused, leaves-by}
 use Rattle.opening.proofs.open_volumes.Statement.{statement}
@@ -18,7 +18,7 @@ use Rattle.opening.proofs.open_volumes.Tie as tie
 -- ---- places of the code, and what is known there
 
 abbrev start : tie.After-first-cell → tie.Start
-start c = c .before .before .before .before .before .before
+start c = c .before .before .before .before .before .before .before
 
 -- The cell that was found.
 module _ (c : tie.After-found) where
@@ -45,7 +45,7 @@ found c = c .before .before .before .before .before
 
 first-cell-requires : tie.Need-first-cell-requires
 first-cell-requires c κs =
-    let s = c .before .before .before .before .before in
+    let s = c .before .before .before .before .before .before in
     (omega (arith, cell-fits (s .args .g) (s .pre .0) 14 (omega arith), s .pre .1), s .pre .2, omega arith, refl)
 
 open-chain-requires : tie.Need-open-chain-requires
@@ -68,8 +68,8 @@ returns c =
     let number = answerNumber (keys .result) in
     let bad = refusing .bad .given .1 in
     leaves-refused (noMaps (a .g)) (noOwners (a .g)) number
-    (withCell-broken (a .g) (headerOf (a .g) (a .device .now)) (finding .found .given .0 .0) (cell .first-cell .last .1 .1 .1 .0) (at finding) number
-    (keys .last .1 .1 .1 .1 .0) (keys .ensures) (answer-refused bad))
+    (withCell-broken (a .g) (a .perm .now) (headerOf (a .g) (a .device .now)) (finding .found .given .0 .0) (cell .first-cell .last .1 .1 .1 .0)
+    (at finding) number (keys .last .1 .1 .1 .1 .0) (keys .ensures) (answer-refused bad))
     (ap openResult (c .refused2 .ensures .0) ∙ sym (ap (λ x. NotOpened (answerNumber x)) bad))
     (s .pre .3)
     (s .pre .4)
@@ -89,7 +89,7 @@ returns-2 c =
     let a = s .args in
     let f = cell .first-cell in
     let none = found-none (a .key .now) (cellOf (a .device .now)) (f .result) (f .last .1 .1 .1 .0) 15 (f .ensures) (told .enum-told .given .1) in
-    leaves-refused (noMaps (a .g)) (noOwners (a .g)) 6 (withCell-none (a .g) (headerOf (a .g) (a .device .now)) none)
+    leaves-refused (noMaps (a .g)) (noOwners (a .g)) 6 (withCell-none (a .g) (a .perm .now) (headerOf (a .g) (a .device .now)) none)
     (ap openResult (c .refused .ensures .0)) (s .pre .3) (s .pre .4) (c .refused .ensures .1)
 
 returns-3 : tie.Need-returns-3
@@ -104,8 +104,8 @@ returns-3 c =
     let number = answerNumber (keys .result) in
     leaves-by
     (sym
-    (withCell-served (a .g) (headerOf (a .g) (a .device .now)) (finding .found .given .0 .0) (cell .first-cell .last .1 .1 .1 .0) (at finding) number
-    (keys .last .1 .1 .1 .1 .0) (keys .ensures) (answer-served (told .enum-told2 .given .1))))
+    (withCell-served (a .g) (a .perm .now) (headerOf (a .g) (a .device .now)) (finding .found .given .0 .0) (cell .first-cell .last .1 .1 .1 .0)
+    (at finding) number (keys .last .1 .1 .1 .1 .0) (keys .ensures) (answer-served (told .enum-told2 .given .1))))
     _ _ _ _ (loading .open-maps .ensures)
 
 pub open-volumes-spec : {M : Type 1} → statement M

@@ -1,5 +1,5 @@
 -- `records::put_three` meets its contract. Assumes nothing.
-use Prim.Native.Nat.{ℕ}
+use Prim.Native.Nat.{ℕ, _+_}
 use mathlib.Core.Path.{ap, _∙_}
 use mathlib.Core.List.{List}
 use borrow.Author.Needs.{needs}
@@ -16,11 +16,11 @@ returns c =
     let first = second .before .before .before .before in
     let a = first .before .before .before .args in
     third .put-eight3 .ensures
-    ∙ ap (λ (l : List ℕ). overlay l 16 (eightBytes (a .z)))
-    (second .put-eight2 .ensures ∙ ap (λ (l : List ℕ). overlay l 8 (eightBytes (a .y))) (first .put-eight .ensures))
-    ∙ overlay-three (a .r .now) (a .x) (a .y) (a .z)
+    ∙ ap (λ (l : List ℕ). overlay l (a .at + 16) (eightBytes (a .z)))
+    (second .put-eight2 .ensures ∙ ap (λ (l : List ℕ). overlay l (a .at + 8) (eightBytes (a .y))) (first .put-eight .ensures))
+    ∙ overlay-three (a .r .now) (a .at) (a .x) (a .y) (a .z)
 
 pub put-three-spec : {M : Type 1} → statement M
 put-three-spec =
     tie.close
-    (tie.spec (λ c κs. search needs) (λ c κs. search needs) (λ c κs. search needs) (λ c. search needs) returns)
+    (tie.spec (λ c κs. search needs) (λ c. search needs) (λ c κs. search needs) (λ c. search needs) (λ c κs. search needs) (λ c. search needs) returns)

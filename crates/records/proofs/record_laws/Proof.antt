@@ -1,7 +1,8 @@
 -- `records::record_laws` meets its contract. Assumes nothing.
+use mathlib.Core.Path.{refl}
 use native.Mathlib.Omega.{arith}
 use Rattle.records.proofs.Structs.{session-fields, session-again, sessionBytes-length, geometry-fields, geometry-again}
-use Rattle.records.proofs.Structs.{three-fields, threeBytes-length}
+use Rattle.records.proofs.Structs.{three-fields, threeBytes-length, handedBack-kept}
 use Rattle.records.proofs.record_laws.Statement.{statement}
 use Rattle.records.proofs.record_laws.Tie as tie
 
@@ -11,6 +12,9 @@ returns c =
       session-fields = session-fields;
       session-again = session-again;
       session-long = sessionBytes-length;
+      session-served = λ handed kept. refl;
+      session-full = λ handed kept. refl;
+      session-kept = handedBack-kept;
       geometry-fields = geometry-fields;
       geometry-again = geometry-again;
       written-claimed = λ ψ probes. three-fields 1 ψ probes (omega arith);

@@ -1,14 +1,14 @@
 -- `requests::check_standing` meets its contract: each return is the first refusal whose test holds. Assumes nothing.
 use Prim.Native.Nat.{ℕ, _*_}
 use mathlib.Core.Path.{_≡_, sym, ap, _∙_}
-use mathlib.Core.Bool.{not}
+use mathlib.Core.Bool.{true, not}
 use native.Mathlib.Omega.{arith}
 use lib.Dec.{eqb}
 use borrow.Author.Needs.{needs}
 use borrow.Author.Tests.{lt-ltb, le-ltb, eq-eqb, ne-eqb}
 use Rattle.refusals.specs.Numbers.{refuse, answerNumber}
 use Rattle.refusals.proofs.Positive.{answer-positive}
-use Rattle.model.specs.Geometry.{Allowed, badGeometry}
+use Rattle.model.specs.Geometry.{Allowed, badGeometry, deviceLength}
 use Rattle.model.specs.Session.{standing}
 use Rattle.model.proofs.Tests.{badGeometry-none, badGeometry-allowed}
 use Rattle.model.proofs.Order.{badGeometry-first}
@@ -46,43 +46,60 @@ returns-3 c =
 returns-4 : tie.Need-returns-4
 unfolding standing refuse
 returns-4 c =
-    let told = c .before .before .before .before in
+    let told = c .before .before .before .before .before in
     simp (
       told .before .before .before .before .if1 .left,
       geometry-passed told,
-      le-ltb _ _ (c .before .before .if2 .left),
-      ne-eqb _ _ (λ e. c .if3 .taken (e ∙ sym (c .before .device-length .ensures))),
+      le-ltb _ _ (c .before .before .before .if2 .left),
+      lt-ltb _ _ (c .if3 .taken),
     )
 
--- Past the device's length: the tables' lengths speak.
-device-passed : (c : tie.Else3) → let a = start (c .before .before .before .before) .args in
+-- Past the session: the lengths speak.
+session-passed : (c : tie.Else3) → let a = start (c .before .before .before .before .before) .args in
     standing (a .device) (a .maps) (a .owners) (a .session) 0
-    ≡ refuse (not (eqb (a .maps) (15 * a .session .geometry .p))) 4 (refuse (not (eqb (a .owners) (a .session .geometry .p))) 4 0)
+    ≡ refuse (not (eqb (a .device) (deviceLength (a .session .geometry)))) 2
+    (refuse (not (eqb (a .maps) (15 * a .session .geometry .p))) 4
+    (refuse (not (eqb (a .owners) (a .session .geometry .p))) 4
+    0))
 unfolding standing refuse
-device-passed c =
-    let told = c .before .before .before .before in
+session-passed c =
+    let told = c .before .before .before .before .before in
     simp (
       told .before .before .before .before .if1 .left,
       geometry-passed told,
-      le-ltb _ _ (c .before .before .if2 .left),
-      eq-eqb _ _ (c .if3 .left ∙ c .before .device-length .ensures),
+      le-ltb _ _ (c .before .before .before .if2 .left),
+      le-ltb _ _ (c .if3 .left),
     )
 
 returns-5 : tie.Need-returns-5
 unfolding refuse
-returns-5 c = simp (device-passed (c .before .before), ne-eqb _ _ (c .if4 .taken))
+returns-5 c =
+    simp (session-passed (c .before .before), ne-eqb _ _ (λ e. c .if4 .taken (e ∙ sym (c .before .device-length .ensures))))
+
+-- The device has its length.
+long : (c : tie.Else4) → let a = start (c .before .before .before .before .before .before .before) .args in
+    eqb (a .device) (deviceLength (a .session .geometry)) ≡ true
+long c = eq-eqb _ _ (c .if4 .left ∙ c .before .device-length .ensures)
 
 returns-6 : tie.Need-returns-6
 unfolding refuse
-returns-6 c = simp (device-passed (c .before .before .before .before), eq-eqb _ _ (c .before .before .if4 .left), ne-eqb _ _ (c .if5 .taken))
+returns-6 c = simp (session-passed (c .before .before .before .before), long (c .before .before), ne-eqb _ _ (c .if5 .taken))
 
 returns-7 : tie.Need-returns-7
 unfolding refuse
-returns-7 c = simp (device-passed (c .before .before .before .before), eq-eqb _ _ (c .before .before .if4 .left), eq-eqb _ _ (c .if5 .left))
+returns-7 c =
+    let passed = c .before .before .before .before in
+    simp (session-passed (passed .before .before), long passed, eq-eqb _ _ (c .before .before .if5 .left), ne-eqb _ _ (c .if6 .taken))
+
+returns-8 : tie.Need-returns-8
+unfolding refuse
+returns-8 c =
+    let passed = c .before .before .before .before in
+    simp (session-passed (passed .before .before), long passed, eq-eqb _ _ (c .before .before .if5 .left), eq-eqb _ _ (c .if6 .left))
 
 pub check-standing-spec : {M : Type 1} → statement M
 check-standing-spec =
     tie.close
-    (tie.spec returns (λ c κs. search needs) (λ c. search needs) returns-2 (λ c. search needs) returns-3
-    (λ c κs. allowed (c .before .before)) returns-4
-    (λ c. omega (arith, allowed (c .before .before .before .before .before) .slices-most)) returns-5 returns-6 returns-7)
+    (tie.spec returns (λ c κs. search needs) (λ c. search needs) returns-2 (λ c. search needs) returns-3 returns-4
+    (λ c κs. allowed (c .before .before .before .before .before)) returns-5
+    (λ c. omega (arith, allowed (c .before .before .before .before .before .before .before .before) .slices-most)) returns-6 returns-7 returns-8)

@@ -4,20 +4,20 @@ use Prim.Native.Nat.{_-_}
 use native.Mathlib.Omega.{arith}
 use borrow.Author.Needs.{needs}
 use lib.ListN.{length, drop, drop-of-length-le}
-use Rattle.model.specs.Write as write
+use Rattle.model.specs.Search as model
 use Rattle.tables.proofs.Places.{search-bad, search-free, search-next}
 use Rattle.tables.proofs.first_free.Statement.{statement}
 use Rattle.tables.proofs.first_free.Tie as tie
 
 abbrev Inv-loop : tie.InvT-loop
 Inv-loop owners perm start place₀ place =
-    write.firstFree owners (length owners) start perm ≡ write.search owners (length owners) place (drop place perm)
+    model.firstFree owners (length owners) start perm ≡ model.search owners (length owners) place (drop place perm)
 
 abbrev μ-loop : tie.MeasureT-loop
 μ-loop owners perm start place₀ place = length perm - place
 
 loop-holds : tie.Need-loop-holds Inv-loop μ-loop
-unfolding write.firstFree
+unfolding model.firstFree
 loop-holds c = refl
 
 cast-slice : tie.Need-cast-slice Inv-loop μ-loop
@@ -47,7 +47,7 @@ loop-again c =
     l .inv ∙ search-next (a .owners .now) _ (l .place) (a .perm .now) (tested .loop-test .taken) (below .if1 .left) (c .if2 .left)
 
 returns-3 : tie.Need-returns-3 Inv-loop μ-loop
-unfolding write.search
+unfolding model.search
 returns-3 c =
     let done = drop-of-length-le (c .before .before .args .perm .now) {i = c .before .loop .place} (omega arith) in
     sym (c .before .loop .inv ∙ rw done refl)

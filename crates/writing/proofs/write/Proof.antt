@@ -70,10 +70,10 @@ use Rattle.tape.proofs.draw as draw′
 use Rattle.tape.proofs.draw.Symbol as draw-def
 use Rattle.tape.proofs.draw.Symbol.{name as #draw}
 use Rattle.tape.proofs.draw.Met as draw-thm
-use Rattle.writing.proofs.carry_out as carry-out′
-use Rattle.writing.proofs.carry_out.Symbol as carry-out-def
-use Rattle.writing.proofs.carry_out.Symbol.{name as #carry-out}
-use Rattle.writing.proofs.carry_out.Met as carry-out-thm
+use Rattle.storing.proofs.carry_out as carry-out′
+use Rattle.storing.proofs.carry_out.Symbol as carry-out-def
+use Rattle.storing.proofs.carry_out.Symbol.{name as #carry-out}
+use Rattle.storing.proofs.carry_out.Met as carry-out-thm
 use Rattle.writing.proofs.write.Key.{name as #outer}
 use Rattle.writing.proofs.write as outer
 use Rattle.writing.proofs.write.Statement as stated
@@ -559,4 +559,4 @@ write-spec 𝓤 H 𝓜 𝓖 𝓡 =
     (cited 𝓤 H (draw-contract 𝓤 H (𝓖 .A) (𝓜 .mem) (𝓡 .run)) 𝓜 𝓡 code.env #draw draw-def.routine
     code.calls-tape·draw (draw-thm.met 𝓤 H 𝓜 𝓖 𝓡))
     (cited 𝓤 H (carry-out-contract 𝓤 H (𝓖 .A) (𝓜 .mem) (𝓡 .run)) 𝓜 𝓡 code.env #carry-out carry-out-def.routine
-    code.calls-writing·carry-out (carry-out-thm.met 𝓤 H 𝓜 𝓖 𝓡)))
+    code.calls-storing·carry-out (carry-out-thm.met 𝓤 H 𝓜 𝓖 𝓡)))
