@@ -43,7 +43,7 @@ pub enum Refusal {
     NotOpen = 20,
     /// The tape has not as many bytes left as the call needs.
     TapeShort = 21,
-    /// No slice is free for a claim.
+    /// No slice from the start place on is free for a claim.
     NoFreeSlice = 22,
     /// There is no key to format with, or more than 15.
     KeyCount = 23,
@@ -106,7 +106,7 @@ impl Refusal {
             Refusal::TagDiffers => "the tag is wrong",
             Refusal::NotOpen => "the session is not open",
             Refusal::TapeShort => "the tape has too few bytes left",
-            Refusal::NoFreeSlice => "no slice is free",
+            Refusal::NoFreeSlice => "no slice from the start place on is free",
             Refusal::KeyCount => "there is no key, or more than 15",
             Refusal::LowerCell => "a key opens the cell of a lower volume",
         }

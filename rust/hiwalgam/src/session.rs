@@ -13,15 +13,20 @@ use crate::{Block, Geometry, Refusal, Tables, Tape, WriteRefused, Written};
 /// An open device: the volume that a key opened, with all below it.
 ///
 /// The device, the tables and the tape are lent to each call. From the opening to the close nothing
-/// but these calls may alter them, and the tables are those of the opening. A session that is
-/// dropped without a close loses the slices that it claimed.
+/// but these calls may alter them, and the tables are those of the opening, as is the permutation. A
+/// session that is dropped without a close loses the slices that it claimed.
+///
+/// A session has a start place: no slice at an earlier place of the permutation is free, and claims
+/// look from there on. So the probes of all its writes, those refused by 5 or 21 left out, add up to P
+/// at most.
 #[derive(PartialEq, Eq, Debug)]
 #[must_use = "what a session claims is lost without a close"]
 pub struct Session(sys::Session);
 
 impl Session {
     /// Opens a device: the lowest volume whose key cell `key` opens, and all below it. The
-    /// permutation names each slice once; claims take the first free one in its order.
+    /// permutation names each slice once; claims take the first free one in its order. Its place is
+    /// the start place, which is P where no slice is free.
     ///
     /// Refused by 1, 2, 3, 4, 5 (the tables stay), 6, 7, 8, 9, 10 (they become empty).
     pub fn open<M, O>(
@@ -116,11 +121,12 @@ impl Session {
 
     /// Writes a block: `text` has B bytes. Where the block's logical slice has a slice, the block is
     /// rewritten there and takes 16 bytes of the tape. Otherwise the first free slice in the order
-    /// of the permutation is claimed, and takes B bytes. A claim is in the device's maps only after
-    /// a close.
+    /// of the permutation, from the start place on, is claimed, and takes B bytes; the start place
+    /// becomes the claimed place plus one. A claim is in the device's maps only after a close.
     ///
     /// Refused by 20, 2, 4, 5 (length), 11, 12, 13, 9; a claim by 5 (a place that names no slice) or
-    /// 22; both by 21. Nothing changes then.
+    /// 22; both by 21. A 22 sets the start place to P, and nothing else changes then. With another
+    /// permutation than that of the opening a 22 can come while an earlier place is free.
     pub fn write<M, O>(
         &mut self,
         device: &mut [u8],
@@ -155,7 +161,8 @@ impl Session {
     }
 
     /// Closes the session: the maps of the open volumes go to the device, with 16 bytes of the tape
-    /// for each map block. The tables are empty afterwards, and the session is closed, without keys.
+    /// for each map block. The tables are empty afterwards, and the session is closed, without keys;
+    /// geometry, volume and start place stay.
     ///
     /// Refused by 20, 2, 4, 9, 21. Nothing changes then, and the close can be tried again.
     pub fn close<M, O>(
@@ -191,6 +198,12 @@ impl Session {
     /// The opened volume: it and all below it are open.
     pub fn volume(&self) -> u64 {
         self.0.volume
+    }
+
+    /// The place of the permutation at which the next claim begins to look, 0 to P. Rewrites, reads,
+    /// finds and a close leave it.
+    pub fn start_place(&self) -> u64 {
+        self.0.start_place
     }
 
     /// Whether the session is open: it was not closed.

@@ -46,7 +46,7 @@ pub const POSITION_LIMIT: u64 = 1_099_511_627_776;
 /// The size of [`Geometry`].
 pub const GEOMETRY_BYTES: usize = 24;
 /// The size of [`Session`].
-pub const SESSION_BYTES: usize = 520;
+pub const SESSION_BYTES: usize = 528;
 /// The size of [`Written`].
 pub const WRITTEN_BYTES: usize = 24;
 
@@ -76,6 +76,8 @@ pub struct Session {
     pub volume: u64,
     /// 1 for open, anything else for closed.
     pub open: u64,
+    /// The place of the permutation at which a claim begins to look, 0 to P.
+    pub start_place: u64,
     /// The data keys of volumes 0 to 14, end to end; zeros above the opened volume.
     pub keys: [u8; VOLUMES * KEY_BYTES],
 }
@@ -90,6 +92,7 @@ impl Session {
         },
         volume: 0,
         open: 0,
+        start_place: 0,
         keys: [0; VOLUMES * KEY_BYTES],
     };
 }
@@ -100,6 +103,7 @@ impl fmt::Debug for Session {
             .field("geometry", &self.geometry)
             .field("volume", &self.volume)
             .field("open", &self.open)
+            .field("start_place", &self.start_place)
             .finish_non_exhaustive()
     }
 }
@@ -112,7 +116,7 @@ pub struct Written {
     pub claimed: u64,
     /// The slice that it claimed or rewrote; 0 where it was refused.
     pub slice: u64,
-    /// The places of the permutation that it looked at.
+    /// The places of the permutation that it looked at, from the session's start place on.
     pub probes: u64,
 }
 
@@ -129,7 +133,8 @@ extern "C" {
         tape: *const u8, tape_length: usize, position: *mut usize,
     ) -> u8;
 
-    /// Opens a device with a key: the lowest volume whose cell the key opens, and all below it.
+    /// Opens a device with a key: the lowest volume whose cell the key opens, and all below it. The
+    /// session's start place is the first place of the permutation whose slice is free, or P.
     ///
     /// Refused by 13 (geometry or session of another size; everything stays), 1, 2, 3, 4, 5 (the
     /// tables stay), 6, 7, 8, 9, 10 (entries become [`UNMAPPED`], owners 0). A refused opening but
@@ -167,11 +172,12 @@ extern "C" {
         out: *mut u8, out_length: usize,
     ) -> usize;
 
-    /// Writes a block of an open volume: `text` has B bytes.
+    /// Writes a block of an open volume: `text` has B bytes. A claim looks from the session's start
+    /// place on, which becomes the claimed place plus one.
     ///
     /// Refused by 13 (session or written of another size), 20, 2, 4, 5 (length), 11, 12, 13 (text),
-    /// 9; a claim by 5 (a place that names no slice) or 22; both by 21. `written` is set, refused or
-    /// not, unless its size is wrong.
+    /// 9; a claim by 5 (a place that names no slice) or 22; both by 21. A 22 sets the start place to
+    /// P. `written` is set, refused or not, unless its size is wrong.
     pub fn hiwalgam_write(
         device: *mut u8, device_length: usize,
         maps: *mut u32, maps_length: usize,

@@ -129,7 +129,8 @@ impl Change {
 pub struct Written {
     /// What the write did.
     pub change: Change,
-    /// The places of the permutation that it looked at: the claimed place plus one, 0 for a rewrite.
+    /// The places of the permutation that it looked at: those from the session's start place to the
+    /// claimed one, or 0 for a rewrite.
     pub probes: u64,
 }
 
@@ -151,7 +152,7 @@ impl Written {
 pub struct WriteRefused {
     /// Why the write was refused.
     pub refusal: Refusal,
-    /// The places of the permutation that it looked at.
+    /// The places of the permutation that it looked at, from the session's start place on.
     pub probes: u64,
 }
 

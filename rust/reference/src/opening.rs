@@ -2,12 +2,14 @@
 
 use crate::aes::KEY;
 use crate::geometry::{Geometry, IV, VOLUMES};
+use crate::permutation::{names_each_slice_once, search};
 use crate::refusal::Refusal;
 use crate::session::{tables_fit, Session, Tables, KEYS, UNMAPPED};
 use crate::{ctr, gcm};
 
-/// Opens the volumes 0 to k for the lowest k whose cell `key` opens. A refusal after that of the
-/// permutation leaves the tables empty, an earlier one as they were.
+/// Opens the volumes 0 to k for the lowest k whose cell `key` opens. The start place is the first
+/// place whose slice is free, or P. A refusal after that of the permutation leaves the tables empty, an
+/// earlier one as they were.
 pub fn open(
     device: &[u8],
     [b, s, p]: [usize; 3],
@@ -30,11 +32,12 @@ pub fn open(
     tables.clear();
     let (k, vmk) = open_cell(geometry, device, key).ok_or(Refusal::NoCell)?;
     let keys = open_headers(geometry, device, k, vmk)?;
-    let session = Session {
+    let mut session = Session {
         b,
         s,
         p,
         k,
+        start_place: 0,
         keys,
         opened: true,
     };
@@ -45,18 +48,8 @@ pub fn open(
         }
         refusal?;
     }
+    session.start_place = search(permutation, tables.owners, 0);
     Ok(session)
-}
-
-fn names_each_slice_once(permutation: &[u32], p: usize) -> bool {
-    let mut named = vec![false; p];
-    permutation.len() == p
-        && permutation
-            .iter()
-            .all(|&slice| match named.get_mut(slice as usize) {
-                Some(seen) => !std::mem::replace(seen, true),
-                None => false,
-            })
 }
 
 /// Decrypts a text that is stored as IV 12, ciphertext and tag 16. None where the tag is wrong.

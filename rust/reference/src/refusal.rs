@@ -34,11 +34,12 @@ pub enum Refusal {
     MalformedLine = 14,
     /// The authentication tag differs.
     TagDiffers = 15,
-    /// The session is closed, its geometry is not allowed, or its k is above 14.
+    /// The session is closed, its geometry is not allowed, its k is above 14, or its start place above
+    /// P.
     NotOpen = 20,
     /// The tape has fewer bytes left than the call needs, or the position is past its end.
     TapeShort = 21,
-    /// No slice that the permutation names is free.
+    /// No slice that the permutation names from the start place on is free.
     NoFreeSlice = 22,
     /// No key to format with, or more than 15.
     KeyCount = 23,

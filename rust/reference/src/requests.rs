@@ -3,6 +3,7 @@
 use crate::aes::KEY;
 use crate::ctr;
 use crate::geometry::{Geometry, IV};
+use crate::permutation::search;
 use crate::refusal::Refusal;
 use crate::session::{tables_fit, Refused, Session, Stored, Tables, Tape, Target, KEYS, UNMAPPED};
 
@@ -103,13 +104,14 @@ pub fn find<'a>(
     }
 }
 
-/// Writes a block: over the old one where its slice is mapped, else into a free slice.
+/// Writes a block: over the old one where its slice is mapped, else into a free slice. A claim moves
+/// the session's start place past the slice that it takes, or to P where it finds none.
 pub fn write(
     device: &mut [u8],
     tables: &mut Tables,
     permutation: &[u32],
     tape: &mut Tape,
-    session: &Session,
+    session: &mut Session,
     target: Target,
     text: &[u8],
 ) -> Result<Stored, Refused> {
@@ -121,19 +123,20 @@ pub fn write(
     if text.len() != geometry.b {
         return Err(Refusal::WrongLength.into());
     }
-    let key = session.data_key(target.volume);
 
     if let Some(slice) = mapped(geometry, tables.maps[index])? {
         tape.check(IV)?;
         let iv = tape.draw(IV);
         device[geometry.iv(slice, offset)].copy_from_slice(iv);
+        let key = session.data_key(target.volume);
         store(key, iv, text, &mut device[geometry.data(slice, offset)]);
         return Ok(Stored::Rewritten { slice });
     }
 
-    let (slice, probes) = first_free(permutation, tables.owners)?;
+    let (slice, probes) = find_free(permutation, tables.owners, session)?;
     let short = |refusal| Refused { refusal, probes };
     tape.check(geometry.b).map_err(short)?;
+    let key = session.data_key(target.volume);
     let (iv_block, data) = device[geometry.slice(slice)].split_at_mut(geometry.b);
     iv_block.copy_from_slice(tape.draw(geometry.b));
     let zeros = vec![0; geometry.b];
@@ -143,6 +146,7 @@ pub fn write(
     }
     tables.maps[index] = slice as u32;
     tables.owners[slice] = target.volume as u8 + 1;
+    session.start_place += probes;
     Ok(Stored::Claimed { slice, probes })
 }
 
@@ -152,23 +156,24 @@ fn store(key: &[u8; KEY], iv: &[u8], text: &[u8], block: &mut [u8]) {
     ctr::apply(key, iv.try_into().unwrap(), block);
 }
 
-/// The first free slice in the order of the permutation, and the places looked at.
-fn first_free(permutation: &[u32], owners: &[u8]) -> Result<(usize, usize), Refused> {
-    for (place, &slice) in permutation.iter().enumerate() {
-        let probes = place + 1;
-        match owners.get(slice as usize) {
-            Some(0) => return Ok((slice as usize, probes)),
-            Some(_) => {}
-            None => {
-                let refusal = Refusal::BadPermutation;
-                return Err(Refused { refusal, probes });
-            }
+/// The first free slice from the start place on, and the places looked at. Where no slice is free, the
+/// start place becomes P.
+fn find_free(
+    permutation: &[u32],
+    owners: &[u8],
+    session: &mut Session,
+) -> Result<(usize, usize), Refused> {
+    let (start, p) = (session.start_place, session.p);
+    let place = search(permutation, owners, start);
+    let refused = |refusal, probes| Err(Refused { refusal, probes });
+    match permutation.get(place) {
+        None => {
+            session.start_place = p;
+            refused(Refusal::NoFreeSlice, p - start)
         }
+        Some(&slice) if slice as usize >= p => refused(Refusal::BadPermutation, place + 1 - start),
+        Some(&slice) => Ok((slice as usize, place + 1 - start)),
     }
-    Err(Refused {
-        refusal: Refusal::NoFreeSlice,
-        probes: permutation.len(),
-    })
 }
 
 /// Writes the maps of volumes 0 to k and closes the session.

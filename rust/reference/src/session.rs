@@ -20,6 +20,9 @@ pub struct Session {
     pub p: usize,
     /// The highest volume that is open.
     pub k: usize,
+    /// The place of the permutation at which a claim begins to look. While session, tables and
+    /// permutation pass on untouched, no slice at an earlier place is free.
+    pub start_place: usize,
     /// The data keys (VEK) of volumes 0 to 14.
     pub keys: [u8; KEYS],
     pub opened: bool,
@@ -29,7 +32,8 @@ impl Session {
     /// The geometry of a session that is open and can serve.
     pub fn geometry(&self) -> Option<Geometry> {
         let geometry = Geometry::new(self.b, self.s, self.p)?;
-        (self.opened && self.k < VOLUMES).then_some(geometry)
+        let allowed = self.opened && self.k < VOLUMES && self.start_place <= self.p;
+        allowed.then_some(geometry)
     }
 
     /// The data key of a volume.
@@ -94,7 +98,7 @@ pub struct Target {
 
 /// A served write.
 pub enum Stored {
-    /// `probes` are the places of the permutation that were looked at.
+    /// `probes` are the places of the permutation that were looked at, from the start place on.
     Claimed {
         slice: usize,
         probes: usize,

@@ -1,7 +1,9 @@
 //! The walk: frames in lowercase hexadecimal, one a line, each with one answer line.
 
 use crate::geometry::{Geometry, IV, VOLUMES};
+use crate::permutation::{names_each_slice_once, search};
 use crate::refusal::Refusal;
+use crate::session::UNMAPPED;
 
 /// The longest frame, in bytes.
 const FRAME_LIMIT: usize = 513;
@@ -9,17 +11,15 @@ const FRAME_LIMIT: usize = 513;
 const SLICES_LIMIT: usize = 256;
 /// The frames 03 of the right length that are not malformed.
 const REQUESTS_LIMIT: usize = 4096;
-/// The map entry of an unmapped slice.
-const UNMAPPED: u16 = 0xffff;
 /// The answer byte of a line that is not refused.
 const SERVED: u8 = 0;
 
 /// A served frame 03.
 struct Placed {
-    slice: u16,
+    slice: u32,
     /// The device block that holds the asked block.
     block: usize,
-    /// The places looked at: 0 for a rewrite.
+    /// The places looked at, from the start place on: 0 for a rewrite.
     probes: usize,
     /// The tape position afterwards.
     position: usize,
@@ -31,11 +31,13 @@ pub struct Walk {
     /// None until a frame 01 is accepted.
     geometry: Option<Geometry>,
     /// Empty until a frame 02 is accepted.
-    permutation: Vec<u16>,
+    permutation: Vec<u32>,
     /// The physical slice of logical slice `l` of volume `i` is at `i * P + l`.
-    maps: Vec<u16>,
+    maps: Vec<u32>,
     /// For each physical slice 0 where it is free, and `i + 1` where volume `i` holds it.
     owners: Vec<u8>,
+    /// The place of the permutation at which a claim begins to look: 0 at first, when all is free.
+    start_place: usize,
     /// The frames 03 of the right length, up to the limit.
     requests: usize,
     /// The tape bytes used.
@@ -53,7 +55,7 @@ impl Walk {
             Ok(None) => push_hex(&[SERVED], out),
             Ok(Some(placed)) => {
                 push_hex(&[SERVED], out);
-                push_hex(&placed.slice.to_be_bytes(), out);
+                push_hex(&(placed.slice as u16).to_be_bytes(), out);
                 push_hex(&(placed.block as u32).to_be_bytes(), out);
                 push_hex(&(placed.probes as u16).to_be_bytes(), out);
                 push_hex(&(placed.position as u32).to_be_bytes(), out);
@@ -99,17 +101,12 @@ impl Walk {
             return Err(Refusal::MalformedLine);
         }
         let geometry = self.geometry.ok_or(Refusal::NotOpen)?;
-        if slices.len() != 2 * geometry.p {
-            return Err(Refusal::BadPermutation);
-        }
         let slices = slices.chunks_exact(2);
-        let slices: Vec<u16> = slices.map(|n| u16::from_be_bytes([n[0], n[1]])).collect();
-        let mut named = vec![false; geometry.p];
-        for &slice in &slices {
-            match named.get_mut(usize::from(slice)) {
-                Some(named) if !*named => *named = true,
-                _ => return Err(Refusal::BadPermutation),
-            }
+        let whole = slices.remainder().is_empty();
+        let slices = slices.map(|n| u32::from(u16::from_be_bytes([n[0], n[1]])));
+        let slices: Vec<u32> = slices.collect();
+        if !whole || !names_each_slice_once(&slices, geometry.p) {
+            return Err(Refusal::BadPermutation);
         }
         self.permutation = slices;
         Ok(())
@@ -141,16 +138,14 @@ impl Walk {
         let mut slice = self.maps[entry];
         let mut probes = 0;
         if slice == UNMAPPED {
-            let place = self.first_free().ok_or(Refusal::NoFreeSlice)?;
-            slice = self.permutation[place];
-            probes = place + 1;
+            (slice, probes) = self.find_free()?;
             self.maps[entry] = slice;
-            self.owners[usize::from(slice)] = volume as u8 + 1;
+            self.owners[slice as usize] = volume as u8 + 1;
             self.position += geometry.b;
         } else {
             self.position += IV;
         }
-        let start = geometry.header_blocks() + usize::from(slice) * (geometry.s + 1);
+        let start = geometry.header_blocks() + slice as usize * (geometry.s + 1);
         Ok(Placed {
             slice,
             block: start + 1 + address % geometry.s,
@@ -159,10 +154,17 @@ impl Walk {
         })
     }
 
-    /// The first place in the permutation whose slice is free.
-    fn first_free(&self) -> Option<usize> {
-        let mut places = self.permutation.iter();
-        places.position(|&slice| self.owners[usize::from(slice)] == 0)
+    /// The first free slice from the start place on, and the places looked at. The start place moves
+    /// past it, or to P where no slice is free.
+    fn find_free(&mut self) -> Result<(u32, usize), Refusal> {
+        let start = self.start_place;
+        let place = search(&self.permutation, &self.owners, start);
+        let Some(&slice) = self.permutation.get(place) else {
+            self.start_place = place;
+            return Err(Refusal::NoFreeSlice);
+        };
+        self.start_place = place + 1;
+        Ok((slice, place + 1 - start))
     }
 }
 

@@ -1,5 +1,6 @@
 //! The speed of the proved engine beside that of the reference, of its reads and rewrites beside its
-//! own counter mode alone, and of its formatting beside a plain copy. Nothing here asserts a time.
+//! own counter mode alone, of its formatting beside a plain copy, and of claims that fill a stick beside
+//! the same slices stored without a search. Nothing here asserts a time.
 //!
 //! Each implementation is called in its own form, without the tests' interface, whose adapters copy
 //! the session.
@@ -17,14 +18,27 @@ use hiwalgam_tests::interface::{Target, UNMAPPED, VOLUMES};
 use hiwalgam_tests::stick::Stick;
 
 const B: usize = 4096;
+/// B and P of the stick that is filled; S is 1.
+const FILL_B: usize = 1024;
+const FILL_P: usize = 4096;
+/// The places that claims look at to fill the stick, where each begins at place 0.
+const LOOKS_FROM_0: usize = FILL_P * (FILL_P + 1) / 2;
+/// Block 0 of volume 0.
+const FIRST: Target = Target {
+    volume: 0,
+    address: 0,
+};
 /// Rounds, in each of which every measurement has a turn.
 const ROUNDS: usize = 101;
+/// Rounds of filling a stick, which takes longer than a turn of anything else.
+const FILL_ROUNDS: usize = 21;
 /// About how long a turn lasts, in seconds.
 const TURN_SECONDS: f64 = 0.001;
 
-/// What is lent to the calls on a stick with half of its slices mapped.
+/// What is lent to the calls on a stick.
 #[derive(Clone)]
 struct Bench {
+    layout: Geometry,
     geometry: hiwalgam::Geometry,
     device: Vec<u8>,
     /// The key that opens all 15 volumes.
@@ -33,35 +47,51 @@ struct Bench {
     tables: Tables,
     tape: Vec<u8>,
     buf: Vec<u8>,
+    /// A block whose logical slice is mapped, unless the stick is blank, and one whose is not.
     mapped: Target,
     unmapped: Target,
 }
 
 impl Bench {
+    /// A stick with half of its slices mapped.
     fn new(random: &mut Random, s: usize, p: usize) -> Self {
         let stick = Stick::random(random, Geometry::new(B, s, p).unwrap(), VOLUMES, p / 2);
         let mapped = stick.texts.keys().copied();
         let mapped = mapped.min_by_key(|target| (target.volume, target.address));
         let mut entries = stick.volumes[0].map.iter();
         let logical = entries.position(|&entry| entry == UNMAPPED);
+        let unmapped = Target {
+            volume: 0,
+            address: logical.unwrap() * s,
+        };
+        Bench::on(random, stick, mapped.unwrap(), unmapped)
+    }
+
+    /// A blank stick, to be filled.
+    fn blank(random: &mut Random) -> Self {
+        let layout = Geometry::new(FILL_B, 1, FILL_P).unwrap();
+        let stick = Stick::blank(random, layout, VOLUMES);
+        Bench::on(random, stick, FIRST, FIRST)
+    }
+
+    fn on(random: &mut Random, stick: Stick, mapped: Target, unmapped: Target) -> Self {
+        let layout = stick.geometry;
         let geometry = hiwalgam::Geometry {
-            block_bytes: B as u64,
-            slice_blocks: s as u64,
-            slices: p as u64,
+            block_bytes: layout.b as u64,
+            slice_blocks: layout.s as u64,
+            slices: layout.p as u64,
         };
         Bench {
+            layout,
             geometry,
             device: stick.device,
             key: stick.volumes[VOLUMES - 1].key,
-            permutation: random.permutation(p),
+            permutation: random.permutation(layout.p),
             tables: Tables::new(geometry),
-            tape: random.bytes(B).to_vec(),
-            buf: vec![0; B],
-            mapped: mapped.unwrap(),
-            unmapped: Target {
-                volume: 0,
-                address: logical.unwrap() * s,
-            },
+            tape: random.bytes(layout.b).to_vec(),
+            buf: vec![0; layout.b],
+            mapped,
+            unmapped,
         }
     }
 }
@@ -77,8 +107,14 @@ trait Session: Sized {
     /// Finds the mapped block, which is not copied.
     fn find(&mut self, bench: &mut Bench);
 
-    /// Writes a block with the first bytes of the tape, and gives the slice.
-    fn write(&mut self, bench: &mut Bench, target: Target) -> usize;
+    /// Writes a block with the first bytes of the tape, and gives the slice and the probes.
+    fn write(&mut self, bench: &mut Bench, target: Target) -> (usize, usize);
+
+    /// Gives the start place.
+    fn start_place(&self) -> usize;
+
+    /// Sets the start place.
+    fn start_at(&mut self, place: usize);
 
     /// Closes a copy of the session.
     fn close(&mut self, bench: &mut Bench);
@@ -92,13 +128,15 @@ fn rewrite<S: Session>(session: &mut S, bench: &mut Bench) {
     session.write(bench, bench.mapped);
 }
 
-/// A claim, which is then taken back in the tables.
+/// A claim, which is then taken back in the tables and the session.
 fn claim<S: Session>(session: &mut S, bench: &mut Bench) {
-    let slice = session.write(bench, bench.unmapped);
+    let start = session.start_place();
+    let (slice, _) = session.write(bench, bench.unmapped);
     let entry = bench.unmapped.address / bench.geometry.slice_blocks as usize;
     assert_eq!(bench.tables.maps[entry], slice as u32);
     bench.tables.maps[entry] = UNMAPPED;
     bench.tables.owners[slice] = 0;
+    session.start_at(start);
 }
 
 /// A close, after which the tables are put back.
@@ -139,13 +177,24 @@ impl Session for Library {
         assert_eq!(found, Some(B));
     }
 
-    fn write(&mut self, bench: &mut Bench, target: Target) -> usize {
+    fn write(&mut self, bench: &mut Bench, target: Target) -> (usize, usize) {
         let (device, tables, order) = (&mut bench.device, &mut bench.tables, &bench.permutation);
         let (tape, text) = (&mut Tape::new(&bench.tape), &bench.buf);
         let written = self
             .0
             .write(device, tables, order, tape, block(target), text);
-        written.unwrap().change.slice() as usize
+        let written = written.unwrap();
+        (written.change.slice() as usize, written.probes as usize)
+    }
+
+    fn start_place(&self) -> usize {
+        self.0.start_place() as usize
+    }
+
+    fn start_at(&mut self, place: usize) {
+        let mut record = self.0.record().clone();
+        record.start_place = place as u64;
+        self.0 = hiwalgam::Session::from_record(record);
     }
 
     fn close(&mut self, bench: &mut Bench) {
@@ -203,14 +252,23 @@ impl Session for Reference {
         assert_eq!(found.len(), B);
     }
 
-    fn write(&mut self, bench: &mut Bench, target: Target) -> usize {
+    fn write(&mut self, bench: &mut Bench, target: Target) -> (usize, usize) {
         let (device, order, text) = (&mut bench.device, &bench.permutation, &bench.buf);
         let tables = &mut reference_tables(&mut bench.tables);
         let (tape, target) = (&mut reference_tape(&bench.tape), reference_target(target));
-        match requests::write(device, tables, order, tape, &self.0, target, text) {
-            Ok(Stored::Claimed { slice, .. } | Stored::Rewritten { slice }) => slice,
+        match requests::write(device, tables, order, tape, &mut self.0, target, text) {
+            Ok(Stored::Claimed { slice, probes }) => (slice, probes),
+            Ok(Stored::Rewritten { slice }) => (slice, 0),
             Err(refused) => panic!("{:?}", refused.refusal),
         }
+    }
+
+    fn start_place(&self) -> usize {
+        self.0.start_place
+    }
+
+    fn start_at(&mut self, place: usize) {
+        self.0.start_place = place;
     }
 
     fn close(&mut self, bench: &mut Bench) {
@@ -219,6 +277,65 @@ impl Session for Reference {
         let tape = &mut reference_tape(&bench.tape);
         requests::close(&mut bench.device, tables, tape, &mut session).unwrap();
     }
+}
+
+/// Empties the tables and fills the stick to the last slice by claims of volume 0. `restart` puts the
+/// start place back to 0 before each claim. Gives the places looked at in all.
+fn fill_with<S: Session>(session: &mut S, bench: &mut Bench, restart: bool) -> usize {
+    bench.tables.maps.fill(UNMAPPED);
+    bench.tables.owners.fill(0);
+    session.start_at(0);
+    let mut looks = 0;
+    for address in 0..FILL_P {
+        if restart {
+            session.start_at(0);
+        }
+        let (_, probes) = session.write(bench, Target { address, ..FIRST });
+        looks += probes;
+    }
+    looks
+}
+
+fn fill<S: Session>(session: &mut S, bench: &mut Bench) {
+    let looks = fill_with(session, bench, false);
+    assert!(looks <= FILL_P, "{looks} places");
+}
+
+fn fill_from_0<S: Session>(session: &mut S, bench: &mut Bench) {
+    let looks = fill_with(session, bench, true);
+    assert_eq!(looks, LOOKS_FROM_0);
+}
+
+/// Stores what the claims of a filling store, without a claim: for each slice in the same order the IV
+/// block from the tape, and the text in the library's counter mode.
+fn store_alone(session: &mut Library, bench: &mut Bench) {
+    let key = &session.0.record().keys[..32];
+    for &slice in &bench.permutation {
+        let place = bench.layout.slice(slice as usize);
+        let (iv_block, data) = bench.device[place].split_at_mut(FILL_B);
+        iv_block.copy_from_slice(&bench.tape);
+        hiwalgam::counter_mode(key, &iv_block[..16], &bench.buf, data).unwrap();
+    }
+}
+
+/// The device that a filling leaves.
+fn filled<S: Session>(bench: &Bench, call: fn(&mut S, &mut Bench)) -> Vec<u8> {
+    let mut bench = bench.clone();
+    let mut session = S::opened(&mut bench);
+    call(&mut session, &mut bench);
+    bench.device
+}
+
+/// The places that the library's claims look at in all. What is measured beside them must leave the
+/// same device.
+fn looks_to_fill(bench: &Bench) -> usize {
+    let device = filled(bench, fill::<Library>);
+    assert!(device == filled(bench, fill::<Reference>), "reference");
+    assert!(device == filled(bench, fill_from_0::<Library>), "from 0");
+    assert!(device == filled(bench, store_alone), "without a claim");
+    let mut bench = bench.clone();
+    let mut session = Library::opened(&mut bench);
+    fill_with(&mut session, &mut bench, false)
 }
 
 /// What is lent to a formatting: a device of 64 MiB, and 15 keys.
@@ -379,10 +496,26 @@ fn main() {
         }
     }
 
+    let stick = Bench::blank(&mut random);
+    let looks = looks_to_fill(&stick);
+    library.push(Measured::on(&stick, "fill, P 4096", fill::<Library>));
+    reference.push(Measured::on(&stick, "fill, P 4096", fill::<Reference>));
+    let mut fill_from_0 = Measured::on(&stick, "fill from 0", fill_from_0::<Library>);
+    let mut store_alone = Measured::on(&stick, "store alone", store_alone);
+    for _ in 0..FILL_ROUNDS {
+        library[8].turn();
+        reference[8].turn();
+        fill_from_0.turn();
+        store_alone.turn();
+    }
+
     println!("B {B}, 15 volumes open, half of the slices mapped; medians of {ROUNDS} rounds.");
     println!(
         "A formatting is of {} bytes with 15 keys.",
         blank.device.len()
+    );
+    println!(
+        "A filling is of {FILL_P} claims on a blank stick, B {FILL_B}, S 1; medians of {FILL_ROUNDS} rounds."
     );
     println!("Times of one call in microseconds; ratios are of times in the same round.\n");
     println!("call              library    reference  library/reference");
@@ -393,10 +526,20 @@ fn main() {
     }
     let alone = counter_mode.microseconds();
     println!("\nThe library's counter mode alone over {B} bytes: {alone:.3}");
+    println!("A filling looks at {looks} places; each claim from place 0, at {LOOKS_FROM_0}.");
     for (name, ratio) in [
         ("read / counter mode", library[0].ratio(&counter_mode)),
         ("rewrite / counter mode", library[1].ratio(&counter_mode)),
         ("format / copy of as many bytes", library[7].ratio(&copy)),
+        // The same slices in the same order: IV blocks copied, texts in counter mode.
+        (
+            "fill / slices stored by counter mode",
+            library[8].ratio(&store_alone),
+        ),
+        (
+            "fill, each claim from place 0 / fill",
+            fill_from_0.ratio(&library[8]),
+        ),
         (
             "open P 4096 / P 256, library",
             library[6].ratio(&library[5]),
@@ -406,6 +549,6 @@ fn main() {
             reference[6].ratio(&reference[5]),
         ),
     ] {
-        println!("{name:<32} {ratio:.3}");
+        println!("{name:<36} {ratio:.3}");
     }
 }

@@ -30,6 +30,8 @@ pub struct Session {
     pub k: usize,
     /// 1 for open, anything else for closed.
     pub open: usize,
+    /// The place of the permutation at which a claim begins to look.
+    pub start_place: usize,
     /// The data keys (VEK) of volumes 0 to 14.
     pub keys: [u8; KEYS],
 }
@@ -42,6 +44,7 @@ impl Session {
         p: 0,
         k: 0,
         open: 0,
+        start_place: 0,
         keys: [0; KEYS],
     };
 }
@@ -74,7 +77,7 @@ pub struct Written {
     /// 1 where a slice was claimed, 0 where a block was rewritten.
     pub claimed: usize,
     pub slice: usize,
-    /// The places of the permutation that were looked at.
+    /// The places of the permutation that were looked at, from the start place on.
     pub probes: usize,
 }
 

@@ -131,8 +131,8 @@ impl State {
                 self.tape = Guarded::new(files.part(file, offset, length));
             }
             ["position", position] => self.position = number(position),
-            ["session", b, s, p, k, open, ref keys @ ..] => {
-                let [b, s, p, k, open] = [b, s, p, k, open].map(number);
+            ["session", b, s, p, k, open, start_place, ref keys @ ..] => {
+                let [b, s, p, k, open, start_place] = [b, s, p, k, open, start_place].map(number);
                 assert!(open <= 1, "open or closed");
                 self.session = Session {
                     b,
@@ -140,12 +140,14 @@ impl State {
                     p,
                     k,
                     open,
+                    start_place,
                     ..Session::CLOSED
                 };
                 assert!(keys.iter().all(|key| key.len() == 64), "keys");
                 let keys = hexadecimal(&keys.concat());
                 self.session.keys[..keys.len()].copy_from_slice(&keys);
             }
+            ["start", place] => self.session.start_place = number(place),
             _ => panic!("nothing that can be set"),
         }
     }

@@ -3,6 +3,7 @@
 
 use std::collections::BTreeMap;
 use std::fs;
+use std::mem::{offset_of, size_of};
 
 use hiwalgam::{sys, Refusal};
 
@@ -253,4 +254,19 @@ fn structs_are_the_headers() {
             .collect();
         assert_eq!(found, fields, "{c}");
     }
+}
+
+/// Where each field of a session stands in its bytes: the numbers of eight bytes each in the header's
+/// order, then the keys to the end.
+#[test]
+fn fields_of_a_session_have_their_places() {
+    let places = [
+        offset_of!(sys::Session, geometry),
+        offset_of!(sys::Session, volume),
+        offset_of!(sys::Session, open),
+        offset_of!(sys::Session, start_place),
+        offset_of!(sys::Session, keys),
+        size_of::<sys::Session>(),
+    ];
+    assert_eq!(places, [0, 24, 32, 40, 48, 528]);
 }

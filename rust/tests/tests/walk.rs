@@ -1,6 +1,9 @@
 //! The program `slicewalk`, run as a process with lines on its standard input. Its output is judged
-//! byte by byte: by answers written out from document 01, by which the reference's walk is judged
-//! too, and by that walk on inputs from a seeded generator. `HIWALGAM_SEED` sets another seed.
+//! byte by byte: by answers written out from documents 01 and 02, by which the reference's walk is
+//! judged too, and by that walk on inputs from a seeded generator. `HIWALGAM_SEED` sets another seed.
+//!
+//! Every claim of a walk looks at one place: the maps are empty at first, there is one permutation, and
+//! the start place stands behind the place of the claim before.
 
 use std::fs::{self, File};
 use std::io::{self, Write};
@@ -212,7 +215,7 @@ const EXAMPLE_OUTPUT: &str = "\
 00
 00
 0000020000002b000100000400
-00000000000021000200000800
+00000000000021000100000800
 0000020000002c000000000810
 0c
 ";
@@ -399,7 +402,7 @@ fn second_permutation() {
         .lines(&seconds, "0e")
         .line(claim, placed)
         .lines(&seconds, "0e")
-        .line("03010000000d", "00000000000021000200000800")
+        .line("03010000000d", "00000000000021000100000800")
         .check();
 }
 
@@ -588,9 +591,9 @@ fn retries() {
         .lines(permutations, "05")
         .line(PERMUTATION_A, "00")
         .line(CLAIM_A[0], CLAIM_A[1])
-        .line("03010000000d", "00000000000021000200000800")
-        .line("030e00000000", "0000030000002f000300000c00")
-        .line("030e0000000f", "00000100000028000400001000")
+        .line("03010000000d", "00000000000021000100000800")
+        .line("030e00000000", "0000030000002f000100000c00")
+        .line("030e0000000f", "00000100000028000100001000")
         .check();
 }
 
@@ -698,7 +701,7 @@ fn volumes_and_addresses() {
         .line("030001000005", "0c")
         .line("0300fffffff5", "0c")
         .line("030e0000000f", "0000020000002d000100000400")
-        .line("03000000000f", "00000000000023000200000800")
+        .line("03000000000f", "00000000000023000100000800")
         .check();
 }
 
@@ -708,11 +711,11 @@ fn a_stick_fills_up() {
     Case::new("stick A fills up")
         .open(GEOMETRY_A, PERMUTATION_A)
         .line("030000000005", "0000020000002b000100000400")
-        .line("03010000000d", "00000000000021000200000800")
+        .line("03010000000d", "00000000000021000100000800")
         .line("030000000006", "0000020000002c000000000810")
-        .line("030e00000000", "0000030000002f000300000c10")
+        .line("030e00000000", "0000030000002f000100000c10")
         .line("030e00000003", "00000300000032000000000c20")
-        .line("03000000000d", "00000100000026000400001020")
+        .line("03000000000d", "00000100000026000100001020")
         .line("030200000000", "16")
         .line("030000000000", "16")
         .line("030100000007", "16")
@@ -747,20 +750,20 @@ fn fifteen_volumes() {
     Case::new("each volume claims the same address")
         .open("0110000001000f", descending(15))
         .line("030000000000", "00000e0000003c000100001000")
-        .line("030100000000", "00000d0000003a000200002000")
-        .line("030200000000", "00000c00000038000300003000")
-        .line("030300000000", "00000b00000036000400004000")
-        .line("030400000000", "00000a00000034000500005000")
-        .line("030500000000", "00000900000032000600006000")
-        .line("030600000000", "00000800000030000700007000")
-        .line("030700000000", "0000070000002e000800008000")
-        .line("030800000000", "0000060000002c000900009000")
-        .line("030900000000", "0000050000002a000a0000a000")
-        .line("030a00000000", "00000400000028000b0000b000")
-        .line("030b00000000", "00000300000026000c0000c000")
-        .line("030c00000000", "00000200000024000d0000d000")
-        .line("030d00000000", "00000100000022000e0000e000")
-        .line("030e00000000", "00000000000020000f0000f000")
+        .line("030100000000", "00000d0000003a000100002000")
+        .line("030200000000", "00000c00000038000100003000")
+        .line("030300000000", "00000b00000036000100004000")
+        .line("030400000000", "00000a00000034000100005000")
+        .line("030500000000", "00000900000032000100006000")
+        .line("030600000000", "00000800000030000100007000")
+        .line("030700000000", "0000070000002e000100008000")
+        .line("030800000000", "0000060000002c000100009000")
+        .line("030900000000", "0000050000002a00010000a000")
+        .line("030a00000000", "0000040000002800010000b000")
+        .line("030b00000000", "0000030000002600010000c000")
+        .line("030c00000000", "0000020000002400010000d000")
+        .line("030d00000000", "0000010000002200010000e000")
+        .line("030e00000000", "0000000000002000010000f000")
         .line("030f00000000", "0b")
         .line("030e00000001", "16")
         .line("030000000001", "16")
@@ -785,8 +788,8 @@ fn every_byte_of_a_request() {
     case.check();
     let mut case = Case::new("logical slices").open("01100001000100", permutation_256());
     for slice in 0..256 {
-        let (block, count) = (32 + 257 * slice, slice + 1);
-        let answer = format!("00{slice:04x}{block:08x}{count:04x}{:08x}", 4096 * count);
+        let (block, position) = (32 + 257 * slice, 4096 * (slice + 1));
+        let answer = format!("00{slice:04x}{block:08x}0001{position:08x}");
         case = case.line(request_line(3, 256 * slice), answer);
     }
     case.check();
@@ -811,17 +814,17 @@ fn largest_numbers() {
         // Slice 255, offset 255: 31 + 255 x 257 + 1 + 255 = 65,822.
         .line("030e0000ffff", "0000ff0001011e000100001000")
         // Slice 254, offset 0: 31 + 254 x 257 + 1 = 65,310.
-        .line("030000000000", "0000fe0000ff1e000200002000");
+        .line("030000000000", "0000fe0000ff1e000100002000");
     // Slices 253 down to 1, offset 0: 32 + 257 x slice.
     for logical in 0..253 {
-        let (slice, count) = (253 - logical, 3 + logical);
-        let (block, position) = (32 + 257 * slice, 4096 * count);
-        let answer = format!("00{slice:04x}{block:08x}{count:04x}{position:08x}");
+        let (slice, claims) = (253 - logical, 3 + logical);
+        let (block, position) = (32 + 257 * slice, 4096 * claims);
+        let answer = format!("00{slice:04x}{block:08x}0001{position:08x}");
         case = case.line(request_line(1, 256 * logical), answer);
     }
     // Slice 0, offset 0, at place 255. The position is 256 x 4,096 = 2^20.
     case = case
-        .line("030d00008000", "00000000000020010000100000")
+        .line("030d00008000", "00000000000020000100100000")
         .line("030200000000", "16")
         .line("03020000ffff", "16")
         // Slice 255, offset 0: 31 + 255 x 257 + 1 = 65,567.
@@ -891,9 +894,9 @@ fn refused_requests_count() {
         .times(500, "030f00000000", "0b")
         .times(500, "030000000010", "0c")
         .line("030000000005", "0000020000002b000100000400")
-        .line("030100000005", "00000000000021000200000800")
-        .line("030200000005", "00000300000030000300000c00")
-        .line("030300000005", "00000100000026000400001000")
+        .line("030100000005", "00000000000021000100000800")
+        .line("030200000005", "00000300000030000100000c00")
+        .line("030300000005", "00000100000026000100001000")
         .times(1090, "030400000005", "16")
         .line("030000000004", "0000020000002a000000001010")
         .line("030e00000004", "16")
@@ -1106,8 +1109,7 @@ fn damaged(random: &mut Random, line: String) -> Vec<u8> {
 struct Covered {
     /// The lines with each answer byte.
     answers: [usize; 256],
-    /// Claims that looked at more than one place.
-    far_claims: usize,
+    claims: usize,
     rewrites: usize,
     /// Right requests after the 4,096.
     past_limit: usize,
@@ -1119,7 +1121,7 @@ impl Covered {
     fn nothing() -> Self {
         Covered {
             answers: [0; 256],
-            far_claims: 0,
+            claims: 0,
             rewrites: 0,
             past_limit: 0,
             unended: 0,
@@ -1136,8 +1138,9 @@ impl Covered {
             self.answers[usize::from(number)] += 1;
             match answer.get(14..18) {
                 Some("0000") => self.rewrites += 1,
-                Some("0001") | None => {}
-                Some(_) => self.far_claims += 1,
+                Some("0001") => self.claims += 1,
+                Some(count) => panic!("a claim that looked at {count} places"),
+                None => {}
             }
             self.past_limit += usize::from(is_request(line) && answer == "0e");
         }
@@ -1150,7 +1153,7 @@ impl Covered {
             assert_eq!(numbers.contains(&number), count > 0, "answer {number:02x}");
             assert!(count == 0 || count >= 200, "answer {number:02x}: {count}");
         }
-        assert!(self.far_claims >= 1000, "claims: {}", self.far_claims);
+        assert!(self.claims >= 1000, "claims: {}", self.claims);
         assert!(self.rewrites >= 1000, "rewrites: {}", self.rewrites);
         assert!(self.past_limit >= 1000, "past 4,096: {}", self.past_limit);
         assert!(self.unended >= 50, "without an end: {}", self.unended);
@@ -1270,9 +1273,9 @@ fn long_case() -> Case {
     case = case.line(&whole, "00");
     // Block 31 + 2 x slice + 1 for slices 255, 254, ..; then rewrites of the last, slice 0.
     for i in 0..256 {
-        let (slice, count, address) = (255 - i, i + 1, 255 - i);
-        let (block, position) = (32 + 2 * slice, 4096 * count);
-        let answer = format!("00{slice:04x}{block:08x}{count:04x}{position:08x}");
+        let (slice, address) = (255 - i, 255 - i);
+        let (block, position) = (32 + 2 * slice, 4096 * (i + 1));
+        let answer = format!("00{slice:04x}{block:08x}0001{position:08x}");
         case = case.line(request_line(7, address), answer);
     }
     for i in 1..=3840 {

@@ -19,6 +19,7 @@ fn session() -> Session {
         geometry: GEOMETRY,
         volume: 1,
         open: 1,
+        start_place: 3,
         keys: [171; 480],
     })
 }
@@ -66,6 +67,7 @@ fn a_record_passes_through() {
     let session = session();
     assert_eq!(session.record().keys, [171; 480]);
     assert_eq!((session.geometry(), session.volume()), (GEOMETRY, 1));
+    assert_eq!(session.start_place(), 3);
     assert!(session.is_open());
     for open in [0, 2, u64::MAX] {
         let record = sys::Session {

@@ -51,9 +51,15 @@ impl Record {
 
     pub fn session(session: &Session) -> Self {
         let &Session {
-            b, s, p, k, open, ..
+            b,
+            s,
+            p,
+            k,
+            open,
+            start_place,
+            ..
         } = session;
-        let numbers = [b, s, p, k, open].map(usize::to_le_bytes);
+        let numbers = [b, s, p, k, open, start_place].map(usize::to_le_bytes);
         Record::new(&[numbers.as_flattened(), &session.keys].concat())
     }
 
@@ -73,13 +79,14 @@ impl Record {
     }
 
     fn to_session(&self) -> Session {
-        let [b, s, p, k, open] = self.numbers();
+        let [b, s, p, k, open, start_place] = self.numbers();
         Session {
             b,
             s,
             p,
             k,
             open,
+            start_place,
             keys: self.bytes[SESSION_BYTES - KEYS..].try_into().unwrap(),
         }
     }

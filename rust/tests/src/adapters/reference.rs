@@ -15,15 +15,41 @@ fn same(refusal: refusal::Refusal) -> Refusal {
 }
 
 fn session_of(session: &Session) -> session::Session {
-    let &Session { b, s, p, k, .. } = session;
+    let &Session {
+        b,
+        s,
+        p,
+        k,
+        start_place,
+        ..
+    } = session;
     session::Session {
         b,
         s,
         p,
         k,
+        start_place,
         keys: session.keys,
         opened: session.open == 1,
     }
+}
+
+/// Hands back what a call left of a session. The number for a session that was closed and still is
+/// stays, also where it is not 0.
+fn hand_back(after: &session::Session, session: &mut Session) {
+    let open = match after.opened == (session.open == 1) {
+        true => session.open,
+        false => usize::from(after.opened),
+    };
+    *session = Session {
+        b: after.b,
+        s: after.s,
+        p: after.p,
+        k: after.k,
+        open,
+        start_place: after.start_place,
+        keys: after.keys,
+    };
 }
 
 fn tables_of<'a>(tables: &'a mut Tables) -> session::Tables<'a> {
@@ -121,14 +147,7 @@ impl Engine for Reference {
         *session = Session::CLOSED;
         let tables = &mut tables_of(tables);
         let opened = opening::open(device, numbers, key, tables, permutation).map_err(same)?;
-        *session = Session {
-            b: opened.b,
-            s: opened.s,
-            p: opened.p,
-            k: opened.k,
-            open: usize::from(opened.opened),
-            keys: opened.keys,
-        };
+        hand_back(&opened, session);
         SERVED
     }
 
@@ -170,14 +189,15 @@ impl Engine for Reference {
         target: Target,
         text: &[u8],
     ) -> Written {
-        let (tables, session, target) = (
-            &mut tables_of(tables),
+        let (mut lent, tables, target) = (
             session_of(session),
+            &mut tables_of(tables),
             target_of(target),
         );
         let stored = with_tape(tape, |tape| {
-            requests::write(device, tables, permutation, tape, &session, target, text)
+            requests::write(device, tables, permutation, tape, &mut lent, target, text)
         });
+        hand_back(&lent, session);
         match stored {
             Ok(Stored::Claimed { slice, probes }) => Written {
                 answer: SERVED,
@@ -196,7 +216,6 @@ impl Engine for Reference {
         }
     }
 
-    /// A refused close leaves the session as it was, also a number for closed that is not 0.
     fn close(
         &self,
         device: &mut [u8],
@@ -204,13 +223,11 @@ impl Engine for Reference {
         tape: &mut Tape,
         session: &mut Session,
     ) -> Answer {
-        let (tables, mut closed) = (&mut tables_of(tables), session_of(session));
+        let (mut lent, tables) = (session_of(session), &mut tables_of(tables));
         let answer = with_tape(tape, |tape| {
-            requests::close(device, tables, tape, &mut closed)
+            requests::close(device, tables, tape, &mut lent)
         });
-        answer.map_err(same)?;
-        session.open = usize::from(closed.opened);
-        session.keys = closed.keys;
-        SERVED
+        hand_back(&lent, session);
+        answer.map_err(same)
     }
 }

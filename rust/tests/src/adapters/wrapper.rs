@@ -20,6 +20,7 @@ fn session_of(session: &Session) -> hiwalgam::Session {
         geometry: geometry_of([session.b, session.s, session.p]),
         volume: session.k as u64,
         open: session.open as u64,
+        start_place: session.start_place as u64,
         keys: session.keys,
     })
 }
@@ -33,6 +34,7 @@ fn hand_back(after: &hiwalgam::Session, session: &mut Session) {
         p: record.geometry.slices as usize,
         k: record.volume as usize,
         open: record.open as usize,
+        start_place: record.start_place as usize,
         keys: record.keys,
     };
 }

@@ -67,6 +67,8 @@ fn any_geometry() {
     let stick = stick_a(&mut random, 2);
     let mut base = State::new(&mut random, &stick, 1);
     open_and_check(&mut base, &stick, 1);
+    // A start place that every P allows.
+    base.session.start_place = 0;
     base.new_tape(&mut random, format_need(stick.geometry, 2));
     let triples = EDGES.map(|b| EDGES.map(|s| EDGES.map(|p| [b, s, p])));
     for numbers in triples.as_flattened().as_flattened() {
@@ -99,6 +101,7 @@ fn length_in_64_bits() {
     state.device = Guarded::new(&vec![0; 4_312_117_248 % (1 << 32)]);
     (state.session.b, state.session.s, state.session.p) = (4096, 256, 4096);
     (state.session.k, state.session.open) = (0, 1);
+    state.session.start_place = 4096;
     for call in [Format, Read, Write, Close, Open] {
         assert_eq!(run(call, &mut state), Err(DeviceLength));
     }

@@ -86,13 +86,18 @@ impl Faults {
         self.add(NotOpen, "P", &p, |state, p| state.session.p = p);
         let k = [15, 256, 1 << 32, MAX];
         self.add(NotOpen, "k", &k, |state, k| state.session.k = k);
+        let p = base.session.p;
+        let places = [p + 1, 4097, 1 << 32, MAX];
+        self.add(NotOpen, "start place", &places, |state, place| {
+            state.session.start_place = place;
+        });
         // An allowed geometry, but of another stick.
         let s = base.session.s % 2 + 1;
         self.add(DeviceLength, "other S", &[s], |state, s| {
             state.session.s = s
         });
         self.device(base.device.len());
-        self.tables(base.session.p);
+        self.tables(p);
     }
 
     /// 11 and 12.
@@ -293,7 +298,7 @@ impl Faults {
     }
 
     fn of_write(base: &State) -> Self {
-        let (b, p) = (base.session.b, base.session.p);
+        let (b, p, start) = (base.session.b, base.session.p, base.session.start_place);
         let claim = base.maps[base.entry()] == UNMAPPED;
         let mut faults = Faults::default();
         faults.lent(base);
@@ -304,7 +309,9 @@ impl Faults {
         });
         faults.entry(base, base.entry());
         if claim {
-            faults.add(BadPermutation, "place", &[0, 1, 2], move |state, place| {
+            // A place before the start is not looked at.
+            let places = &[0, 1, 2][start..];
+            faults.add(BadPermutation, "place", places, move |state, place| {
                 let no_slice = [p as u32, UNMAPPED, 1 << 31][place];
                 set(&mut state.permutation, place, no_slice);
             });
@@ -316,9 +323,9 @@ impl Faults {
         faults.tape(base, if claim { b } else { IV });
         for fault in &mut faults.0 {
             fault.probes = match fault.name {
-                "place" => fault.value + 1,
-                "all held" => p,
-                "position" | "tape" if claim => 3,
+                "place" => fault.value + 1 - start,
+                "all held" => p - start,
+                "position" | "tape" if claim => 3 - start,
                 _ => 0,
             };
         }
@@ -387,7 +394,8 @@ pub fn with_sticks(mut test: impl FnMut(&mut Random, &Stick, State)) {
     }
 }
 
-/// The slices in order, but 2 and 3 first, which are held: a claim takes the third place.
+/// The slices in order, but 2 and 3 first, which are held: a claim takes the third place, and an
+/// opening sets the start place to 2.
 pub fn held_first(p: usize) -> Guarded<u32> {
     let mut slices: Vec<u32> = (0..p as u32).collect();
     slices.rotate_left(2);
@@ -409,21 +417,25 @@ pub fn with_faults(call: Call, mut test: impl FnMut(&mut Random, &State, &Faults
             let faults = Faults::of_open(random, stick, &base);
             return test(random, &base, &faults);
         }
-        open_and_check(&mut base, stick, 1);
         base.permutation = held_first(p);
+        open_and_check(&mut base, stick, 1);
+        assert_eq!(base.session.start_place, 2);
         if call == Close {
             let faults = Faults::of_close(&base, stick.geometry);
             return test(random, &base, &faults);
         }
-        // A mapped block and an unmapped one.
-        for address in [s - 1, s] {
+        // A mapped block and an unmapped one; a claim also from the places before.
+        for (address, start) in [(s - 1, 2), (s, 2), (s, 1), (s, 0)] {
             base.target = at(1, address);
+            base.session.start_place = start;
             let faults = match call {
                 Read => Faults::of_read(&base),
                 Find => Faults::of_find(&base),
                 _ => Faults::of_write(&base),
             };
-            test(random, &base, &faults);
+            if start == 2 || call == Write {
+                test(random, &base, &faults);
+            }
         }
     });
 }

@@ -12,5 +12,6 @@ mod records;
 mod refusals;
 mod requests;
 mod scenarios;
+mod start_places;
 mod state;
 mod two_sticks;

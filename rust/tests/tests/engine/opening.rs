@@ -76,11 +76,12 @@ fn volumes_above_lose_slices() {
         state.target = at(claim % 2, claim / 2 * 3 + claim % 3);
         state.new_tape(&mut random, 1024);
         let (answer, _) = run_places(Write, &mut state);
-        let expected = if claim < 17 { SERVED } else { Err(NoFreeSlice) };
-        assert_eq!(
-            (answer.answer, answer.probes),
-            (expected, 17.min(claim + 1))
-        );
+        // Each claim takes the place behind that of the claim before, and at last there is none.
+        let expected = match claim {
+            0..17 => (SERVED, 1),
+            _ => (Err(NoFreeSlice), 0),
+        };
+        assert_eq!((answer.answer, answer.probes), expected);
     }
     assert_eq!(run(Close, &mut state), SERVED);
     for (volume, answer) in [(2, Err(SliceTwice)), (1, SERVED), (0, SERVED)] {

@@ -1,7 +1,7 @@
 //! The structs as bytes: wrong sizes, and what a call leaves of a session.
 
 use hiwalgam::sys::{SESSION_BYTES, WRITTEN_BYTES};
-use hiwalgam::Refusal::{NotOpen, WrongLength};
+use hiwalgam::Refusal::{NoFreeSlice, NotOpen, WrongLength};
 use hiwalgam_tests::adapters::c_functions::{self, Record};
 use hiwalgam_tests::inputs::{Guarded, Random};
 use hiwalgam_tests::interface::{Answer, Tables, Tape, SERVED};
@@ -166,9 +166,9 @@ fn check_session(call: Call, state: &mut State) -> Answer {
     let answer = records.call(call, state);
     let left = match (call, answer) {
         (Open, Err(_)) => Record::new(&[0; SESSION_BYTES]),
-        (Open, Ok(())) => opened_at_1(state.numbers, &records.session),
-        // Geometry and volume stay.
-        (Close, Ok(())) => Record::new(&[&before.bytes()[..32], &[0; SESSION_BYTES - 32]].concat()),
+        (Open, Ok(())) => opened_at_1(state, &records.session),
+        (Write, Ok(()) | Err(NoFreeSlice)) => moved(&before, &records.written),
+        (Close, Ok(())) => closed(&before),
         (Format | Read | Find | Write | Close, _) => before,
     };
     assert!(
@@ -178,12 +178,27 @@ fn check_session(call: Call, state: &mut State) -> Answer {
     answer
 }
 
-/// The session of an opening at volume 1: geometry, volume, 1 for open, the keys of the volumes 0
-/// and 1, which follow from the device, and zeros.
-fn opened_at_1([b, s, p]: [usize; 3], session: &Record) -> Record {
-    let numbers = [b, s, p, 1, 1].map(usize::to_le_bytes);
-    let keys = &session.bytes()[40..104];
+/// The session of an opening at volume 1: geometry, volume, 1 for open, the start place, the keys of
+/// the volumes 0 and 1, which follow from the device, and zeros.
+fn opened_at_1(state: &State, session: &Record) -> Record {
+    let [b, s, p] = state.numbers;
+    let numbers = [b, s, p, 1, 1, state.first_free(0)].map(usize::to_le_bytes);
+    let keys = &session.bytes()[48..112];
     Record::new(&[numbers.as_flattened(), keys, &[0; 416]].concat())
+}
+
+/// A session with the start place moved by as many places as a write looked at.
+fn moved(before: &Record, written: &Record) -> Record {
+    let number = |bytes: &[u8]| u64::from_le_bytes(bytes.try_into().unwrap());
+    let place = number(&before.bytes()[40..48]) + number(&written.bytes()[16..24]);
+    let (first, keys) = (&before.bytes()[..40], &before.bytes()[48..]);
+    Record::new(&[first, &place.to_le_bytes(), keys].concat())
+}
+
+/// A session after its close: geometry, volume and start place stay.
+fn closed(before: &Record) -> Record {
+    let (first, place) = (&before.bytes()[..32], &before.bytes()[40..48]);
+    Record::new(&[first, &[0; 8], place, &[0; 480]].concat())
 }
 
 #[test]

@@ -70,16 +70,22 @@ fn refusals_of_close() {
 fn no_refusal() {
     with_sticks(|_, stick, mut base| {
         let Geometry { s, p, .. } = stick.geometry;
-        open_and_check(&mut base, stick, 1);
         base.permutation = held_first(p);
-        let changes: [fn(&mut State); 5] = [
+        open_and_check(&mut base, stick, 1);
+        let changes: [fn(&mut State); 7] = [
             // Keys and rows above k, owners above 15.
             |state| state.session.keys[64..].fill(1),
             |state| state.maps[2 * state.session.p..].fill(UNMAPPED - 1),
             |state| state.owners[2..4].fill(255),
-            // Places after the free one, and duplicates.
+            // Places after the free one and before the start place, and duplicates.
             |state| state.permutation[3..].fill(UNMAPPED),
-            |state| state.permutation[1] = state.permutation[0],
+            |state| state.permutation[..2].fill(UNMAPPED),
+            |state| {
+                state.permutation[1] = state.permutation[0];
+                state.session.start_place = 0;
+            },
+            // A start place before the held places.
+            |state| state.session.start_place = 0,
         ];
         for change in changes {
             for (call, address) in [(Read, 0), (Find, 0), (Write, 0), (Write, s), (Close, 0)] {

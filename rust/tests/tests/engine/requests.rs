@@ -21,8 +21,9 @@ pub const EDGES: [usize; 16] = [
 /// Numbers for a session that is closed: any but 1.
 pub const CLOSED: [usize; 7] = [0, 2, 7, 255, 257, (1 << 32) + 1, MAX];
 
-/// Sets the arguments of a request, some of them wrong, and returns its call.
-pub fn request(random: &mut Random, state: &mut State) -> Call {
+/// Sets the arguments of a request, some of them wrong, and returns its call. `order` is the
+/// permutation of the opening, which most requests have too.
+pub fn request(random: &mut Random, state: &mut State, order: &[u32]) -> Call {
     let Session { b, s, p, k, .. } = state.session;
     let wrong = |random: &mut Random| random.once_in(25);
     // Half of the addresses are in the first slices, where requests meet.
@@ -43,7 +44,10 @@ pub fn request(random: &mut Random, state: &mut State) -> Call {
     state.text = random.bytes(text_len);
     state.buf = Guarded::blank(len(random));
 
-    state.permutation = permutation(random, p);
+    state.permutation = match random.once_in(4) {
+        true => permutation(random, p),
+        false => Guarded::new(order),
+    };
     if wrong(random) {
         state.permutation = state.permutation.resized(random.pick(&[0, p - 1, p + 1]));
     }
@@ -74,7 +78,7 @@ fn permutation(random: &mut Random, p: usize) -> Guarded<u32> {
 pub fn spoil(random: &mut Random, state: &mut State) {
     let edge = random.pick(&EDGES);
     let near = |random: &mut Random, len: usize| random.pick(&[0, len / 2, len + 1, 2 * len]);
-    match random.below(26) {
+    match random.below(27) {
         0 => state.session.b = edge,
         1 => state.session.s = edge,
         2 => state.session.p = edge,
@@ -113,6 +117,11 @@ pub fn spoil(random: &mut Random, state: &mut State) {
                 let short = random.below(2);
                 state.new_tape(random, need - short);
             }
+        }
+        24 => {
+            let p = state.session.p;
+            let places = [0, 1, p / 2, p, p.wrapping_add(1), edge];
+            state.session.start_place = random.pick(&places);
         }
         _ => {
             // Mostly in the master block and the headers.

@@ -68,8 +68,10 @@ impl Model {
             Write if answer.claimed == 1 => {
                 assert_eq!(held, None, "claimed");
                 let held: Vec<usize> = self.slices.values().copied().collect();
-                let mut order = state.permutation.iter().map(|&slice| slice as usize);
-                let first = order.position(|slice| !held.contains(&slice));
+                let order = state.permutation.iter().map(|&slice| slice as usize);
+                // The claim has moved the start place by as many places as it looked at.
+                let start = state.session.start_place - answer.probes;
+                let first = order.skip(start).position(|slice| !held.contains(&slice));
                 assert_eq!(first, Some(answer.probes - 1), "first free place");
                 self.slices.insert(place, answer.slice);
                 self.claims.push(place);
@@ -120,8 +122,8 @@ fn random_stick(random: &mut Random, geometry: Geometry) -> (Stick, usize) {
 }
 
 /// Runs a request and, on a copy, sometimes a call with something wrong.
-fn play(random: &mut Random, state: &mut State, model: &mut Model) {
-    let call = request(random, state);
+fn play(random: &mut Random, state: &mut State, model: &mut Model, order: &[u32]) {
+    let call = request(random, state, order);
     let (answer, _) = run_places(call, state);
     if answer.answer == SERVED {
         model.served(call, state, answer);
@@ -136,7 +138,7 @@ fn play(random: &mut Random, state: &mut State, model: &mut Model) {
 }
 
 /// Closes, with one byte of the tape too few and then with enough, and tries what is refused then.
-fn close(random: &mut Random, state: &mut State, model: &mut Model) {
+fn close(random: &mut Random, state: &mut State, model: &mut Model, order: &[u32]) {
     let Session { b, s, p, k, .. } = state.session;
     let need = IV * geometry(b, s, p).map_blocks() * (k + 1);
     let unused = random.below(20);
@@ -147,7 +149,7 @@ fn close(random: &mut Random, state: &mut State, model: &mut Model) {
     assert_eq!(run(Close, state), SERVED);
     model.served(Close, state, Written::of(SERVED));
     for _ in 0..3 {
-        let call = request(random, state);
+        let call = request(random, state, order);
         let answer = if call == Find { SERVED } else { Err(NotOpen) };
         assert_eq!(run(call, state), answer);
         assert!(call != Find || state.found == 0);
@@ -163,13 +165,14 @@ fn scenario(random: &mut Random, geometry: Geometry, requests: usize) {
     open_and_check(&mut state, &stick, k);
     model.opened(k);
     loop {
+        let order = state.permutation.to_vec();
         for _ in 0..requests {
-            play(random, &mut state, &mut model);
+            play(random, &mut state, &mut model, &order);
         }
         if random.once_in(4) {
             model.lost(geometry.s);
         } else {
-            close(random, &mut state, &mut model);
+            close(random, &mut state, &mut model, &order);
         }
         // The stick opens again, with the same volumes or fewer.
         if random.once_in(2) {

@@ -97,6 +97,15 @@ impl State {
         self.target.address % self.session.s
     }
 
+    /// The first place from `start` on whose slice is free, or the number of places where there is
+    /// none.
+    pub fn first_free(&self, start: usize) -> usize {
+        let owner = |slice: u32| self.owners.get(slice as usize);
+        let places = start..self.permutation.len();
+        let mut free = places.filter(|&place| owner(self.permutation[place]) == Some(&0));
+        free.next().unwrap_or(self.permutation.len())
+    }
+
     /// Makes the call. The answer has zeros for what only a write gives.
     pub fn call(&mut self, call: Call, engine: &dyn Engine) -> Written {
         let (device, session) = (&mut self.device, &mut self.session);
@@ -151,13 +160,14 @@ impl State {
 
 /// A session of random numbers and keys.
 pub fn any_session(random: &mut Random) -> Session {
-    let [b, s, p, k, open] = [(); 5].map(|()| random.word() as usize);
+    let [b, s, p, k, open, start_place] = [(); 6].map(|()| random.word() as usize);
     Session {
         b,
         s,
         p,
         k,
         open,
+        start_place,
         keys: random.array(),
     }
 }
@@ -214,6 +224,7 @@ fn effect(
         }
         (Find, _) => after_find(&mut state, after.found),
         (Write, Ok(())) => after_write(&mut state, answer, after),
+        (Write, Err(Refusal::NoFreeSlice)) => after_search(&mut state, answer),
         (Close, Ok(())) => after_close(&mut state, after),
         (Format | Read | Write | Close, Err(_)) => Vec::new(),
     };
@@ -258,6 +269,7 @@ fn after_opening(state: &mut State, after: &State) -> Vec<Range<usize>> {
     state.session = after.session.clone();
     state.maps = Guarded::new(&after.maps);
     state.owners = Guarded::new(&after.owners);
+    state.session.start_place = state.first_free(0);
     Vec::new()
 }
 
@@ -289,7 +301,11 @@ fn after_write(state: &mut State, answer: Written, after: &State) -> Vec<Range<u
     let drawn_from = state.position;
     let places = if answer.claimed == 1 {
         assert_eq!(state.maps[entry], UNMAPPED);
-        assert_eq!(state.permutation[answer.probes - 1], slice as u32);
+        let start = state.session.start_place;
+        let place = state.first_free(start);
+        assert_eq!(answer.probes, place + 1 - start, "probes");
+        assert_eq!(state.permutation[place], slice as u32);
+        state.session.start_place = place + 1;
         state.maps[entry] = slice as u32;
         state.owners[slice] = state.target.volume as u8 + 1;
         state.position += geometry.b;
@@ -305,6 +321,15 @@ fn after_write(state: &mut State, answer: Written, after: &State) -> Vec<Range<u
     let drawn = &state.tape[drawn_from..state.position];
     assert_eq!(after.device[start..start + drawn.len()], *drawn, "IVs");
     places
+}
+
+/// A claim that found no free slice changes the start place alone.
+fn after_search(state: &mut State, answer: Written) -> Vec<Range<usize>> {
+    let Session { p, start_place, .. } = state.session;
+    assert_eq!(state.first_free(start_place), p, "no free slice");
+    assert_eq!(answer.probes, p - start_place, "probes");
+    state.session.start_place = p;
+    Vec::new()
 }
 
 fn after_close(state: &mut State, after: &State) -> Vec<Range<usize>> {
@@ -347,6 +372,9 @@ pub fn open_and_check(state: &mut State, stick: &Stick, k: usize) {
         }
         session.keys[32 * i..32 * (i + 1)].copy_from_slice(&volume.vek);
     }
+    let mut places = state.permutation.iter();
+    let first = places.position(|&slice| owners[slice as usize] == 0);
+    session.start_place = first.unwrap_or(p);
     assert_eq!(state.session, session);
     assert!(state.maps[..] == maps && state.owners[..] == owners);
 }

@@ -81,10 +81,11 @@ fn compare_two_sticks(random: &mut Random, geometry: Geometry) {
     let stick = Stick::random(random, geometry, count, mapped);
     let other = twin(random, &stick, k);
     let [mut one, mut two] = open_both(random, &stick, &other, k);
+    let order = one.permutation.to_vec();
 
     let mut written = vec![false; stick.device.len()];
     for i in 0..30 {
-        let mut call = request(random, &mut one);
+        let mut call = request(random, &mut one, &order);
         if i > 20 && random.once_in(5) {
             call = Close;
         }
