@@ -51,5 +51,5 @@ int main(void) {
             owners, P, permutation, P, &session, sizeof session))) return 1;
     if (refused("read", hiwalgam_read(device, DEVICE, maps, MAPS, owners, P, &session, sizeof session,
             VOLUME, ADDRESS, block, B))) return 1;
-    return memcmp(block, text, B) != 0 || position != TAPE || session.volume != VOLUME;
+    return memcmp(block, text, B) != 0 || position != TAPE || session.volume != VOLUME || session.start_place != 1;
 }

@@ -9,6 +9,7 @@
 #ifndef _DEFAULT_SOURCE
 #define _DEFAULT_SOURCE /* MAP_ANONYMOUS */
 #endif
+#include <stddef.h>
 #include <stdint.h>
 #include <stdio.h>
 #include <stdlib.h>
@@ -764,6 +765,7 @@ static void set_session(struct bench *bench, struct words *words, int given)
     session.geometry.slices = take_number(words, UINT64_MAX);
     session.volume = take_number(words, UINT64_MAX);
     session.open = take_number(words, 1);
+    session.start_place = take_number(words, UINT64_MAX);
     for (size_t i = 0; words_left(words) != 0 && !words->wrong; i++) {
         struct bytes key = take_key(words);
         if (i == HIWALGAM_VOLUMES || key.length != HIWALGAM_KEY_BYTES) words->wrong = 1;
@@ -772,6 +774,17 @@ static void set_session(struct bench *bench, struct words *words, int given)
     }
     store(&bytes, &session, sizeof session);
     set_whole(bench, words, given, SESSION, bytes);
+}
+
+/* The session's start place alone. */
+static void set_start(struct bench *bench, struct words *words, int given)
+{
+    uint64_t start_place = take_number(words, UINT64_MAX);
+    struct bytes bytes = { NULL, 0 };
+
+    take_end(words);
+    store(&bytes, &start_place, sizeof start_place);
+    set_some(bench, words, given, SESSION, offsetof(hiwalgam_session, start_place), bytes);
 }
 
 struct line_kind {
@@ -783,7 +796,7 @@ static const struct line_kind LINE_KINDS[] = {
     { "device", set_device }, { "zeros", set_zeros }, { "bytes", set_bytes }, { "geometry", set_geometry },
     { "maps", set_maps }, { "row", set_row }, { "entry", set_entry }, { "owners", set_owners },
     { "owner", set_owner }, { "permutation", set_permutation }, { "tape", set_tape }, { "position", set_position },
-    { "session", set_session }
+    { "session", set_session }, { "start", set_start }
 };
 
 static void set_part(struct bench *bench, struct words *words, int given)
@@ -1034,8 +1047,11 @@ static void lend_hex(struct bench *bench, int part, const char *hex)
     free(bytes.at);
 }
 
-/* Address 4 of volume 0 has slice 2. Address 0 has none, and a claim takes slice 1, the last of four probes. */
-enum { SMALL_B = 1024, SMALL_MAPPED = 4, SMALL_UNMAPPED = 0, SMALL_PROBES = 4 };
+/*
+ * Address 4 of volume 0 has slice 2. Address 0 has none, and a claim takes slice 1, which alone is free: it stands at the
+ * last of the four places, where the session's start place is, and so has one probe.
+ */
+enum { SMALL_B = 1024, SMALL_P = 4, SMALL_MAPPED = 4, SMALL_UNMAPPED = 0, SMALL_START = 3, SMALL_PROBES = 1 };
 
 /*
  * Lends small.img, opened with the key of its volume 2, and everything else that a call takes; keeps all that. The tape
@@ -1077,12 +1093,13 @@ static void lend_resized(struct bench *bench, int part, size_t size)
     free(bytes.at);
 }
 
-enum { SIZES = 4 };
+/* Among them that of a session without a start place. */
+enum { SIZES = 5 };
 
 static size_t other_size(const struct bench *bench, int part, int which)
 {
     size_t right = bench->parts[part].kept.length;
-    const size_t sizes[SIZES] = { 0, right - 1, right + 1, 2 * right };
+    const size_t sizes[SIZES] = { 0, right - sizeof(uint64_t), right - 1, right + 1, 2 * right };
     return sizes[which];
 }
 
@@ -1218,6 +1235,211 @@ static void group_closed(struct bench *bench)
             if (function == WRITE) expect_zeros(bench, WRITTEN);
             check_call(bench, function, function == FIND ? 0 : HIWALGAM_NOT_OPEN);
         }
+}
+
+/* ---- Cases: start places -------------------------------------------------------------------------------------- */
+
+/* The fields of a session stand one behind the other, as code in other languages has them. */
+static void group_layout(struct bench *bench)
+{
+    lend_empty_state(bench);
+    check(bench, sizeof(hiwalgam_session) == 528 && HIWALGAM_SESSION_BYTES == 528, "session", "has not 528 bytes");
+    check(bench, offsetof(hiwalgam_session, geometry) == 0, "geometry", "is not at 0");
+    check(bench, offsetof(hiwalgam_session, volume) == 24, "volume", "is not at 24");
+    check(bench, offsetof(hiwalgam_session, open) == 32, "open", "is not at 32");
+    check(bench, offsetof(hiwalgam_session, start_place) == 40, "start_place", "is not at 40");
+    check(bench, offsetof(hiwalgam_session, keys) == 48, "keys", "are not at 48");
+    check(bench, sizeof(((hiwalgam_session *)NULL)->start_place) == 8, "start_place", "has not 8 bytes");
+    if (!open_small(bench)) return;
+    check(bench, bytes_of(bench, SESSION)[40] == SMALL_START, "start_place", "is not what the opening found");
+    for (size_t i = 41; i < 48; i++)
+        check(bench, bytes_of(bench, SESSION)[i] == 0, "start_place", "has not its least significant byte first");
+}
+
+/* Sets the start place in the session that is lent, byte by byte, and expects it to stay. */
+static void lend_start(struct bench *bench, uint64_t start_place)
+{
+    for (int i = 0; i < 8; i++) bytes_of(bench, SESSION)[40 + i] = (uint8_t)(start_place >> 8 * i);
+    expect_as_lent(bench, SESSION);
+}
+
+/* Expects another start place than is lent, and every other byte of the session as it is. */
+static void expect_start(struct bench *bench, uint64_t start_place)
+{
+    expect_as_lent(bench, SESSION);
+    for (int i = 0; i < 8; i++) bench->parts[SESSION].expected.at[40 + i] = (uint8_t)(start_place >> 8 * i);
+}
+
+/* What open_small keeps, with another start place, for a call on an address of volume 0. */
+static void lend_small(struct bench *bench, uint64_t start_place, uint64_t address)
+{
+    put_all_back(bench);
+    lend_start(bench, start_place);
+    bench->volume = 0;
+    bench->address = address;
+}
+
+static void lend_owners(struct bench *bench, uint8_t value)
+{
+    lend_filled(bench, OWNERS, SMALL_P, value);
+}
+
+/* A claim with all slices held: 22, after which P stands in the session, and all else as it was. */
+static void case_none_free(struct bench *bench, uint64_t start_place)
+{
+    lend_small(bench, start_place, SMALL_UNMAPPED);
+    lend_owners(bench, 200);
+    lend_null(bench, TAPE); /* a 21 would come later */
+    expect_start(bench, SMALL_P);
+    expect_written(bench, 0, 0, SMALL_P - start_place);
+    check_call(bench, WRITE, HIWALGAM_NO_FREE_SLICE);
+
+    lend_owners(bench, 0); /* slices that are free at earlier places are not seen */
+    lend_filled(bench, WRITTEN, sizeof(hiwalgam_written), UNSET_BYTE);
+    expect_written(bench, 0, 0, 0);
+    check_call(bench, WRITE, HIWALGAM_NO_FREE_SLICE);
+}
+
+/* A claim with all slices free: it takes the slice at the start place. The tape and the device are in the transcripts. */
+static void case_all_free(struct bench *bench, uint64_t start_place)
+{
+    const uint32_t slice = numbers_of(bench, PERMUTATION)[start_place];
+
+    lend_small(bench, start_place, SMALL_UNMAPPED);
+    lend_owners(bench, 0);
+    expect_start(bench, start_place + 1);
+    expect_written(bench, 1, slice, 1);
+    bench->parts[OWNERS].expected.at[slice] = 1;
+    memcpy(bench->parts[MAPS].expected.at, &slice, sizeof slice);
+    check_answer(bench, WRITE, HIWALGAM_SERVED);
+    expect_as_lent(bench, DEVICE);
+    expect_as_lent(bench, POSITION);
+    compare(bench);
+}
+
+/* Refusals of a claim that leave every byte of the session, with the probes from the start place on. */
+static void case_refused_claims(struct bench *bench, uint64_t start_place)
+{
+    const uint32_t no_slice[SMALL_P] = { 4, 4, 4, 4 };
+    const uint32_t no_slice_last[SMALL_P] = { 2, 0, 3, UINT32_MAX };
+
+    lend_small(bench, start_place, SMALL_UNMAPPED);
+    lend(bench, PERMUTATION, no_slice, sizeof no_slice);
+    expect_written(bench, 0, 0, 1);
+    check_call(bench, WRITE, HIWALGAM_BAD_PERMUTATION);
+
+    lend_small(bench, start_place, SMALL_UNMAPPED);
+    lend(bench, PERMUTATION, no_slice_last, sizeof no_slice_last);
+    expect_written(bench, 0, 0, SMALL_P - start_place);
+    check_call(bench, WRITE, HIWALGAM_BAD_PERMUTATION);
+
+    lend_small(bench, start_place, SMALL_UNMAPPED);
+    lend_null(bench, TAPE);
+    expect_written(bench, 0, 0, SMALL_P - start_place);
+    check_call(bench, WRITE, HIWALGAM_TAPE_SHORT);
+}
+
+/* Refusals of other calls, or before a place is looked at, with every start place that is allowed: no byte changes. */
+static void case_other_refusals(struct bench *bench, uint64_t start_place)
+{
+    const int parts[] = { DEVICE, MAPS, OWNERS, PERMUTATION, TEXT, BUFFER, TAPE };
+
+    for (int function = READ; function <= CLOSE; function++)
+        for (size_t i = 0; i < sizeof parts / sizeof *parts; i++) {
+            /* A find takes any buffer. */
+            if (!takes(function, parts[i]) || (function == FIND && parts[i] == BUFFER)) continue;
+            lend_small(bench, start_place, SMALL_MAPPED);
+            lend_null(bench, parts[i]);
+            if (function == WRITE) expect_zeros(bench, WRITTEN);
+            check_call(bench, function, answer_with_null(function, BIT(parts[i])));
+        }
+    lend_small(bench, start_place, SMALL_UNMAPPED);
+    bench->volume = 3;
+    expect_zeros(bench, WRITTEN);
+    check_call(bench, WRITE, HIWALGAM_VOLUME_ABOVE);
+    lend_small(bench, start_place, 16);
+    expect_zeros(bench, WRITTEN);
+    check_call(bench, WRITE, HIWALGAM_ADDRESS_ABOVE);
+    lend_small(bench, start_place, SMALL_UNMAPPED);
+    numbers_of(bench, MAPS)[0] = SMALL_P;
+    expect_as_lent(bench, MAPS);
+    expect_zeros(bench, WRITTEN);
+    check_call(bench, WRITE, HIWALGAM_BAD_ENTRY);
+}
+
+/* Calls that are served and look at no place leave the start place, a close too. */
+static void case_served(struct bench *bench, uint64_t start_place)
+{
+    for (int function = READ; function <= CLOSE; function++) {
+        lend_small(bench, start_place, SMALL_MAPPED);
+        check_answer(bench, function, function == FIND ? (size_t)SMALL_B : (size_t)HIWALGAM_SERVED);
+        if (function == CLOSE) {
+            bench->parts[SESSION].expected.at[32] = 0; /* `open` */
+            memset(bench->parts[SESSION].expected.at + 48, 0, HIWALGAM_VOLUMES * HIWALGAM_KEY_BYTES);
+        }
+        for (int part = 0; part < PARTS; part++)
+            if (part != SESSION) expect_as_lent(bench, part);
+        compare(bench);
+    }
+}
+
+/* A refused opening sets the start place to 0 with the rest of the session, a formatting and a 13 leave it. */
+static void case_opening(struct bench *bench, uint64_t start_place)
+{
+    lend_small(bench, start_place, SMALL_MAPPED);
+    lend_null(bench, KEY);
+    expect_zeros(bench, SESSION);
+    check_call(bench, OPEN, HIWALGAM_KEY_LENGTH);
+
+    lend_small(bench, start_place, SMALL_MAPPED);
+    lend_filled(bench, KEY, HIWALGAM_KEY_BYTES, UNSET_BYTE);
+    lend_filled(bench, MAPS, length_of(bench, MAPS), 0xff); /* what this refusal sets */
+    lend_owners(bench, 0);
+    expect_zeros(bench, SESSION);
+    check_call(bench, OPEN, HIWALGAM_NO_CELL);
+
+    lend_small(bench, start_place, SMALL_MAPPED);
+    lend_null(bench, GEOMETRY);
+    check_call(bench, OPEN, HIWALGAM_WRONG_LENGTH);
+
+    lend_small(bench, start_place, SMALL_MAPPED);
+    expect_start(bench, SMALL_START);
+    check_call(bench, OPEN, HIWALGAM_SERVED);
+}
+
+static void group_start_places(struct bench *bench)
+{
+    if (!open_small(bench)) return;
+    for (uint64_t start_place = 0; start_place <= SMALL_P; start_place++) {
+        case_none_free(bench, start_place);
+        if (start_place < SMALL_P) case_all_free(bench, start_place);
+        if (start_place < SMALL_P) case_refused_claims(bench, start_place);
+        case_other_refusals(bench, start_place);
+        case_served(bench, start_place);
+        case_opening(bench, start_place);
+    }
+}
+
+/* A start place above P is refused by 20, with all else right and with all else wrong, and the session keeps its bytes. */
+static void group_start_above(struct bench *bench)
+{
+    const uint64_t places[] = {
+        5, 6, 255, 256, 257, 0x10000, 0x10003, (uint64_t)1 << 32, ((uint64_t)1 << 32) + 3, (uint64_t)1 << 63,
+        ((uint64_t)1 << 63) + 4, UINT64_MAX - 3, UINT64_MAX
+    };
+    const int lists[] = { DEVICE, MAPS, OWNERS, PERMUTATION, TAPE, TEXT, BUFFER };
+
+    if (!open_small(bench)) return;
+    for (size_t i = 0; i < sizeof places / sizeof *places; i++)
+        for (int function = READ; function <= CLOSE; function++)
+            for (int wrong = 0; wrong < 3; wrong++) {
+                lend_small(bench, places[i], wrong == 0 ? SMALL_MAPPED : SMALL_UNMAPPED);
+                for (size_t list = 0; wrong == 2 && list < sizeof lists / sizeof *lists; list++)
+                    lend_null(bench, lists[list]);
+                if (wrong == 2) bench->volume = UINT64_MAX;
+                if (function == WRITE) expect_zeros(bench, WRITTEN);
+                check_call(bench, function, function == FIND ? 0 : HIWALGAM_NOT_OPEN);
+            }
 }
 
 /* ---- Cases: ciphers ------------------------------------------------------------------------------------------- */
@@ -1636,8 +1858,10 @@ static const struct group GROUPS[] = {
     { "refusals.txt", run_transcript }, { "tables.txt", run_transcript }, { "above.txt", run_transcript },
     { "ignored.txt", run_transcript }, { "lengths.txt", run_transcript }, { "format.txt", run_transcript },
     { "format-sizes.txt", run_transcript }, { "format-refusals.txt", run_transcript },
-    { "lower-cells.txt", run_transcript },
+    { "lower-cells.txt", run_transcript }, { "start-places.txt", run_transcript },
     { "sizes of structs", group_struct_sizes }, { "NULL", group_null }, { "closed sessions", group_closed },
+    { "layout of a session", group_layout }, { "start places", group_start_places },
+    { "start places above P", group_start_above },
     { "published vectors", group_published }, { "wrong tags", group_wrong_tag }, { "cipher lengths", group_lengths },
     { "cipher NULL", group_cipher_null }, { "parts of a text", group_pieces }, { "far positions", group_positions },
     { "overlapping const", group_overlap }
@@ -1674,7 +1898,7 @@ int main(int argc, char **argv)
     for (size_t i = 0; i < sizeof GROUPS / sizeof *GROUPS; i++) {
         struct bench sums;
         memset(&sums, 0, sizeof sums);
-        printf("%-20s", GROUPS[i].name);
+        printf("%-22s", GROUPS[i].name);
         fflush(stdout); /* the name is seen also where a call ends the program */
         for (int placement = 0; placement < PLACEMENTS; placement++)
             run_group(&GROUPS[i], argv[1], placement, &sums);

@@ -281,10 +281,11 @@ class Image:
 
 # -------------------------------------------------------------------------------------------------- a model of the calls
 
-Session = namedtuple("Session", "B S P k open keys")
+# The start place is the place of the permutation where a claim begins to look.
+Session = namedtuple("Session", "B S P k open start keys")
 
 # What a refused opening hands back: closed, all numbers and keys 0.
-NO_SESSION = Session(0, 0, 0, 0, 0, (NO_KEY,) * VOLUMES)
+NO_SESSION = Session(0, 0, 0, 0, 0, 0, (NO_KEY,) * VOLUMES)
 
 
 class Refused(Exception):
@@ -428,8 +429,13 @@ def open_device(lent, key):
             maps[i * g.P + sigma] = entry
             owners[entry] = i + 1
 
+    # The start place is the first place whose slice is free, or P.
+    start = 0
+    while start < g.P and owners[lent.permutation[start]] != 0:
+        start += 1
+
     lent.maps, lent.owners = maps, owners
-    lent.session = Session(g.B, g.S, g.P, k, 1, tuple(keys))
+    lent.session = Session(g.B, g.S, g.P, k, 1, start, tuple(keys))
     return k
 
 
@@ -437,7 +443,7 @@ def standing(lent):
     """What read, write and close refuse first: 20, 2, 4. Gives the session's geometry."""
     session = lent.session
     g = Geometry(session.B, session.S, session.P)
-    if session.open != 1 or not g.allowed() or session.k > 14:
+    if session.open != 1 or not g.allowed() or session.k > 14 or session.start > g.P:
         raise Refused(20)
     if len(lent.device) != g.length:
         raise Refused(2)
@@ -482,7 +488,7 @@ def find(lent, volume, address):
 
 
 def write(lent, volume, address, text):
-    """Answers claimed or rewritten, the slice, and the probes."""
+    """Answers claimed or rewritten, the slice, and the probes. A claim, and a 22, move the start place on."""
     g = standing(lent)
     if len(lent.permutation) != g.P:
         raise Refused(5)
@@ -495,12 +501,14 @@ def write(lent, volume, address, text):
         lent.store(g.data(psi, j), counter_mode(vek, iv, text))
         return "rewritten", psi, 0
 
-    # The claim takes the first place in the permutation whose slice has owner 0.
+    # The claim takes the first place in the permutation, from the start place on, whose slice has owner 0.
+    start = lent.session.start
     probes = 0
     while True:
-        if probes == g.P:
+        if start + probes == g.P:
+            lent.session = lent.session._replace(start=g.P)
             raise Refused(22, probes)
-        psi = lent.permutation[probes]
+        psi = lent.permutation[start + probes]
         probes += 1
         if psi >= g.P:
             raise Refused(5, probes)
@@ -513,11 +521,13 @@ def write(lent, volume, address, text):
     lent.store(g.slice(psi), ivs + b"".join(blocks))
     lent.maps[place] = psi
     lent.owners[psi] = volume + 1
+    lent.session = lent.session._replace(start=start + probes)
     return "claimed", psi, probes
 
 
 def close(lent):
-    """Writes the maps of volumes 0 to k in order, each block with a fresh IV, and wipes tables and keys."""
+    """Writes the maps of volumes 0 to k in order, each block with a fresh IV, and wipes tables and keys. The session's
+    numbers stay, and so does its start place."""
     g = standing(lent)
     session = lent.session
     rows = [lent.maps[i * g.P : (i + 1) * g.P] for i in range(session.k + 1)]
@@ -582,7 +592,7 @@ def session_words(session):
     keys = list(session.keys)
     while keys and keys[-1] == NO_KEY:
         keys.pop()
-    return words([session.B, session.S, session.P, session.k, session.open] + [key.hex() for key in keys])
+    return words(list(session[:6]) + [key.hex() for key in keys])
 
 
 def apply(lent, line):
@@ -602,8 +612,8 @@ def apply(lent, line):
             put(lent.device, numbers[0], data)
         return
     if kind == "session":
-        keys = [bytes.fromhex(key) for key in rest[5:]]
-        lent.session = Session(*[int(n) for n in rest[:5]], tuple(keys + [NO_KEY] * (VOLUMES - len(keys))))
+        keys = [bytes.fromhex(key) for key in rest[6:]]
+        lent.session = Session(*[int(n) for n in rest[:6]], tuple(keys + [NO_KEY] * (VOLUMES - len(keys))))
         return
     values = [MARK if word == "-" else int(word) for word in rest]
     assert all(0 <= value < LARGEST for value in values), line
@@ -624,9 +634,15 @@ def apply(lent, line):
         lent.owners[values[0]] = values[1]
     elif kind == "permutation":
         lent.permutation = values
+    elif kind == "start":
+        lent.session = lent.session._replace(start=values[0])
     else:
         assert kind == "position", line
         lent.position = values[0]
+
+
+# An open session that is none of the device's. No number of it is 0.
+OTHER_SESSION = f"4096 3 2 1 1 1 {Noise('no session').take(32).hex()}"
 
 
 class Transcript:
@@ -686,11 +702,15 @@ class Transcript:
     def spoil(self):
         """Before an opening: other tables and another session than a refusal leaves, so that leaving them shows."""
         if self.lent.session == NO_SESSION:
-            self.given(f"session 4096 3 2 1 1 {Noise('no session').take(32).hex()}")
+            self.given(f"session {OTHER_SESSION}")
         if all(entry == MARK for entry in self.lent.maps):
             self.given(f"maps {len(self.lent.maps)} 2")
         if not any(self.lent.owners):
             self.given(f"owners {words((3 * n + 1) % 256 for n in range(len(self.lent.owners)))}")
+
+    def starts(self, place):
+        """The session's start place now, as a hand worked it out. Lines of the transcript have it already."""
+        assert self.lent.session.start == place, f"{self.name}: start place {self.lent.session.start}, not {place}"
 
     def format(self, keys, expected, count=None):
         """With a list of keys, or with the bytes of all and the count."""
@@ -755,9 +775,12 @@ class Transcript:
             outcome = f"0 {kind} {psi} {probes}"
             if kind == "claimed":
                 thens = [f"entry {volume} {address // self.lent.session.S} {psi}", f"owner {psi} {volume + 1}"]
+                thens.append(f"start {self.lent.session.start}")
             thens.append(f"position {self.lent.position}")
         except Refused as refused:
             outcome = f"{refused.number} {refused.probes}"
+            if refused.number == 22:
+                thens = [f"start {self.lent.session.start}"]
         self.called(f"write {volume} {address} {add('texts.bin', text)} {len(text)}", expected, outcome, thens)
 
     def close(self, expected):
@@ -856,15 +879,18 @@ def small():
     )
     t.say("Key 0 opens volume 0 alone.")
     t.open(key[0], "0 0")
+    t.starts(1)
     t.reads(*small_blocks(0))
     t.read(1, 13, "11")
     t.find(1, 13, "0")
     t.say("Key 1 opens volumes 0 and 1.")
     t.open(key[1], "0 1")
+    t.starts(2)
     t.reads(*small_blocks(0, 1))
     t.read(2, 0, "11")
     t.say("Key 2 opens all three.")
     t.open(key[2], "0 2")
+    t.starts(3)
     t.reads(*small_blocks(0, 1, 2))
     t.reads((0, 0, None), (0, 15, None), (1, 0, None), (2, 15, None))
     t.read(0, 16, "12")
@@ -883,12 +909,13 @@ def small():
     t.write(0, 7, small_text(0, 7, "second"), "0 rewritten 2 0")
     t.reads((0, 7, small_text(0, 7, "second")), (0, 4, small_text(0, 4)), (0, 6, None))
     t.find(0, 7, "1024 46080")
-    t.say("A claim: the only free slice stands last in the permutation.")
-    t.write(1, 1, small_text(1, 1), "0 claimed 1 4")
+    t.say("A claim: the only free slice stands last in the permutation, where the start place is.")
+    t.write(1, 1, small_text(1, 1), "0 claimed 1 1")
+    t.starts(4)
     t.reads((1, 0, None), (1, 1, small_text(1, 1)), (1, 2, None), (1, 3, None), (0, 1, None), (1, 13, small_text(1, 13)))
     t.find(1, 1, "1024 38912")
     t.say("No slice is free.")
-    t.write(2, 15, small_text(2, 15), "22 4")
+    t.write(2, 15, small_text(2, 15), "22 0")
     t.reads((2, 15, None))
     t.say("Rewrites in the claimed slice, one block twice, and in another volume.")
     t.write(1, 2, small_text(1, 2), "0 rewritten 1 0")
@@ -904,9 +931,11 @@ def small():
     t.find(0, 7, "0")
     t.write(0, 7, small_text(0, 7), "20 0")
     t.close("20")
-    t.say("The next opening, with another permutation.")
+    t.say("The next opening, with another permutation. No slice is free.")
     t.given("permutation 1 3 0 2")
     t.open(key[2], "0 2")
+    t.starts(4)
+    t.write(2, 15, small_text(2, 15), "22 0")
     t.reads(
         (0, 4, small_text(0, 4)),
         (0, 5, None),
@@ -939,19 +968,26 @@ def above():
     t.lend("small.img", SMALL, [0, 1, 2, 3], tape("above", 5632, at_16=FF16), 0)
     t.say("A claim without a close is lost: the next opening finds the slice free and the block unmapped.")
     t.open(key[2], "0 2")
-    t.write(0, 0, small_text(0, 0), "0 claimed 1 2")
+    t.starts(1)
+    t.write(0, 0, small_text(0, 0), "0 claimed 1 1")
+    t.starts(2)
     t.reads((0, 0, small_text(0, 0)))
     t.open(key[2], "0 2")
+    t.starts(1)
     t.reads((0, 0, None))
     t.find(0, 0, "0")
-    t.write(2, 9, small_text(2, 9), "0 claimed 1 2")
+    t.write(2, 9, small_text(2, 9), "0 claimed 1 1")
     t.reads((2, 8, None), (2, 9, small_text(2, 9)))
     t.say("With key 0 the slices of volumes 1 and 2 are free, and claims take them, each one the next.")
     t.given("permutation 3 2 0 1")
     t.open(key[0], "0 0")
+    t.starts(0)
     t.write(0, 3, small_text(0, 3), "0 claimed 3 1")
-    t.write(0, 8, small_text(0, 8), "0 claimed 0 3")
-    t.write(0, 14, small_text(0, 14), "0 claimed 1 4")
+    t.starts(1)
+    t.write(0, 8, small_text(0, 8), "0 claimed 0 2")
+    t.starts(3)
+    t.write(0, 14, small_text(0, 14), "0 claimed 1 1")
+    t.starts(4)
     t.reads((0, 3, small_text(0, 3)), (0, 4, small_text(0, 4)), (0, 8, small_text(0, 8)), (0, 14, small_text(0, 14)))
     t.close("0")
     t.open(key[0], "0 0")
@@ -964,7 +1000,7 @@ def above():
 
 
 def refusals():
-    """The refusals of each call in their order, and that nothing is changed."""
+    """The refusals of each call in their order, and what each leaves."""
     image = small_image()
     key = image.key
     wrong = Noise("no key").take(32)
@@ -972,7 +1008,7 @@ def refusals():
     t = Transcript(
         "refusals.txt",
         "Every refusal, mostly with the conditions of later ones standing too. A refused call changes nothing, but for the",
-        "session of a refused opening and, from 6 on, its tables.",
+        "session of a refused opening and, from 6 on, its tables, and for the start place at a 22.",
     )
     good_tables = ["maps 60 2", "owners 7 0 255 1"]
     t.lend("small.img", SMALL, [2, 0, 3, 1], tape("refusals", 4096), 0)
@@ -1038,17 +1074,22 @@ def refusals():
 
     short = small_text(0, 4)[:1023]
     some = small_text(0, 4)
-    served = f"session 1024 4 4 1 1 {image.vek[0].hex()} {image.vek[1].hex()}"
+    served = f"session 1024 4 4 1 1 3 {image.vek[0].hex()} {image.vek[1].hex()}"
     t.say("The other calls, with volumes 0 and 1 open.")
     t.open(key[1], "0 1")
+    t.starts(2)
 
-    t.say("20: a closed session, a geometry that is not allowed, a k above 14; with everything else wrong too.")
+    t.say("20: a closed session, a geometry that is not allowed, a k above 14, a start place above P; with everything else",
+          "wrong too.")
     t.given("device small.img 52223")
     t.given("maps 59 4")
     t.given("permutation 0 0 0")
     t.given("position 4097")
     for session in (
-        served.replace(" 1 1 ", " 1 0 "), "session 0 0 0 0 0",
+        served.replace(" 1 1 3 ", " 1 0 3 "), served.replace(" 1 1 3 ", " 1 0 5 "), "session 0 0 0 0 0 0",
+        served.replace(" 1 1 3 ", " 1 1 5 "), served.replace(" 1 1 3 ", " 1 1 18446744073709551615 "),
+        served.replace(" 1 1 3 ", " 1 1 4294967296 "), served.replace(" 1 1 3 ", " 1 1 4294967299 "),
+        served.replace(" 1 1 3 ", " 1 1 257 "), served.replace(" 1 1 3 ", " 1 1 9223372036854775808 "),
         served.replace("1024 4 4 1 1", "1024 4 4 15 1"),
         served.replace("1024 4 4 1 1", "1024 4 4 256 1"),
         served.replace("1024 4 4 1 1", "1024 4 4 4294967297 1"),
@@ -1126,17 +1167,24 @@ def refusals():
     t.find(0, 4, "1024 43008")
 
     t.say("A claim's 5: a place that names no slice, met before a free one. It comes before 21: the position is past the end.")
+    t.given("start 0")
     for permutation, probes in (("4 1 3 0", 1), ("2 4 1 3", 2), ("2 0 4294967295 1", 3), ("2 0 2 4097", 4), ("0 257 1 1", 2)):
         t.given(f"permutation {permutation}")
         t.write(0, 0, some, f"5 {probes}")
 
-    t.say("22: no slice that the permutation names is free.")
+    t.say("22: no slice that the permutation names is free. It comes before 21, and the start place is then 4.")
     t.given("permutation 2 0 2 0")
     t.write(0, 0, some, "22 4")
+    t.starts(4)
     t.given("owners 2 200 1 16")
     t.given("permutation 2 0 3 1")
+    t.given("start 0")
     t.write(0, 0, some, "22 4")
+    t.starts(4)
+    t.write(0, 0, some, "22 0")
+    t.starts(4)
     t.given("owners 2 0 1 3")
+    t.given("start 0")
 
     t.say("21: the position past the end, or too few bytes left. A claim's carries its probes, a rewrite's none.")
     for position in (3073, 4080, 4095, 4096, 4097, 2**32, 2**63, 2**64 - 1024, 2**64 - 1):
@@ -1149,6 +1197,13 @@ def refusals():
     t.given("permutation 1 2 3 0")
     t.write(0, 0, some, "21 1")
     t.given("permutation 2 0 3 1")
+    t.given("start 1")
+    t.write(0, 0, some, "21 2")
+    t.given("start 3")
+    t.write(0, 0, some, "21 1")
+    t.given("start 4")
+    t.write(0, 0, some, "22 0")
+    t.given("start 1")
 
     t.say("Close, 9: a bad entry in rows 0 to k, before 21.")
     t.close("9")
@@ -1166,11 +1221,12 @@ def refusals():
 
     t.say("Served with exactly as many bytes as are needed: a claim with 1,024, a rewrite with 16, a close with 32.")
     t.given("position 3072")
-    t.write(0, 0, some, "0 claimed 3 3")
+    t.write(0, 0, some, "0 claimed 3 2")
     t.given("position 4080")
     t.write(0, 1, some, "0 rewritten 3 0")
     t.given("position 4064")
     t.close("0")
+    t.starts(3)
     t.open(key[1], "0 1")
     t.reads((0, 0, some), (0, 1, some), (0, 2, None), (0, 4, small_text(0, 4)), (1, 13, small_text(1, 13)))
     t.finish()
@@ -1186,19 +1242,26 @@ def tables():
     t.say("An owner byte that is not 0 is held, whatever it is.")
     t.given("owners 2 200 1 0")
     t.given("permutation 1 3 0 2")
+    t.given("start 0")
     t.write(1, 4, other, "0 claimed 3 2")
+    t.starts(2)
     t.say("A rewrite does not look at the owners.")
     t.given("owners 0 0 0 0")
     t.write(0, 4, some, "0 rewritten 2 0")
     t.say("A claim looks at the owners alone: slice 2 is mapped, but has owner 0.")
     t.given("permutation 2 1 0 3")
+    t.given("start 0")
     t.write(2, 9, other, "0 claimed 2 1")
+    t.starts(1)
     t.reads((2, 9, other), (2, 8, None))
     t.say("A permutation that names a slice more than once, or no slice behind the free place, is no refusal of a write.")
     t.given("permutation 2 2 1 2")
-    t.write(0, 15, some, "0 claimed 1 3")
+    t.write(0, 15, some, "0 claimed 1 2")
+    t.starts(3)
     t.given("permutation 2 0 4 4294967295")
+    t.given("start 0")
     t.write(1, 0, other, "0 claimed 0 2")
+    t.starts(2)
     t.say("Rewrites look at no place.")
     t.given("permutation 4 4 4 4")
     t.write(1, 1, some, "0 rewritten 0 0")
@@ -1212,14 +1275,14 @@ def tables():
     t.given("owners 2 0 1 3")
     t.given("permutation 0 1 2 3")
     all_keys = [vek.hex() for vek in image.vek]
-    t.given(f"session 1024 4 4 1 1 {words(all_keys)}")
+    t.given(f"session 1024 4 4 1 1 4 {words(all_keys)}")
     t.reads((0, 4, small_text(0, 4)), (1, 13, small_text(1, 13)))
     t.read(2, 0, "11")
-    t.given(f"session 1024 4 4 1 1 {words([all_keys[1], all_keys[0]])}")
+    t.given(f"session 1024 4 4 1 1 2 {words([all_keys[1], all_keys[0]])}")
     t.read(0, 7, "0")
     t.write(0, 7, some, "0 rewritten 2 0")
     t.reads((0, 7, some))
-    t.given(f"session 1024 4 4 0 1 {words(all_keys)}")
+    t.given(f"session 1024 4 4 0 1 0 {words(all_keys)}")
     t.write(0, 0, some, "0 claimed 1 2")
     t.read(1, 13, "11")
     t.close("0")
@@ -1230,7 +1293,7 @@ def tables():
     t.given("row 1 - - 3 0")
     t.given("row 2 3 - - -")
     t.given("owners 2 1 1 3")
-    t.given(f"session 1024 4 4 2 1 {words(all_keys[:3])}")
+    t.given(f"session 1024 4 4 2 1 3 {words(all_keys[:3])}")
     t.close("0")
     t.open(image.key[1], "0 1")
     t.open(image.key[2], "10")
@@ -1239,9 +1302,9 @@ def tables():
     t.given("device small.img 52224")
     t.given("maps 60 -")
     t.given("owners 0 0 0 0")
-    t.given(f"session 1024 4 4 14 1 {words(all_keys[:3])}")
+    t.given(f"session 1024 4 4 14 1 0 {words(all_keys[:3])}")
     t.write(14, 7, some, "0 claimed 0 1")
-    t.write(3, 7, other, "0 claimed 1 2")
+    t.write(3, 7, other, "0 claimed 1 1")
     t.reads((14, 7, some), (3, 7, other), (14, 6, None), (2, 7, None))
     t.close("0")
     t.open(image.key[2], "0 2")
@@ -1280,6 +1343,7 @@ def twomaps():
     t.open(key[0], "0 0")
     t.reads(*((0, sigma, first[0, sigma]) for sigma in (0, 250, 252, 256)), (0, 251, None), (0, 253, None))
     t.open(key[1], "0 1")
+    t.starts(99)
     t.reads(*((volume, sigma, data) for (volume, sigma), data in first.items()))
     t.reads((0, 1, None), (1, 0, None), (1, 252, None), (1, 251, None), (1, 254, None))
     t.read(0, 257, "12")
@@ -1289,10 +1353,25 @@ def twomaps():
     t.find(1, 253, f"1024 {1024 * (46 + 2 * 255 + 1)}")
     t.find(1, 252, "0")
     t.say("Claims in the first map block and in the second, then none is free.")
-    t.write(1, 251, written[1, 251], "0 claimed 7 100")
-    t.write(1, 255, written[1, 255], "0 claimed 130 256")
-    t.write(0, 253, written[0, 253], "0 claimed 254 257")
-    t.write(0, 1, written[0, 1], "22 257")
+    t.write(1, 251, written[1, 251], "0 claimed 7 1")
+    t.starts(100)
+    t.write(1, 255, written[1, 255], "0 claimed 130 156")
+    t.starts(256)
+    t.write(0, 253, written[0, 253], "0 claimed 254 1")
+    t.starts(257)
+    t.write(0, 1, written[0, 1], "22 0")
+    t.say("Start places handed in: the first, one in the middle, the last, the end, and those past it.")
+    for start in (0, 1, 128, 256, 257):
+        t.given(f"start {start}")
+        t.write(0, 1, written[0, 1], f"22 {257 - start}")
+        t.starts(257)
+    for start in (258, 512, 513, 65536 + 257, 2**32 + 257):
+        t.given(f"start {start}")
+        t.read(0, 256, "20")
+        t.find(0, 256, "0")
+        t.write(0, 1, written[0, 1], "20 0")
+        t.close("20")
+    t.given("start 200")
     t.write(0, 256, written[0, 256], "0 rewritten 252 0")
     t.reads(*((place[0], place[1], written[place]) for place in ((1, 251), (1, 255), (0, 253), (0, 256))))
     t.say("A close needs 64 bytes: with 63 it is refused.")
@@ -1353,9 +1432,10 @@ def fifteen():
     t.find(8, 5, "0")
     t.say("A claim and a rewrite.")
     claimed, rewritten = text("fifteen, block 1 of volume 3", g.B), text("fifteen, block 0 of volume 14, written", g.B)
-    t.write(3, 1, claimed, "0 claimed 2 4")
+    t.starts(3)
+    t.write(3, 1, claimed, "0 claimed 2 1")
     t.write(14, 0, rewritten, "0 rewritten 3 0")
-    t.write(13, 0, claimed, "22 4")
+    t.write(13, 0, claimed, "22 0")
     t.reads((3, 0, None), (3, 1, claimed), (14, 0, rewritten), (14, 1, first[14, 1]))
     t.say("A close needs 240 bytes: with 239 it is refused.")
     name, offset, length = tape_words.split(" ")
@@ -1398,13 +1478,19 @@ def widest():
     t.find(1, 0, f"1024 {1024 * 32}")
     t.find(1, 63, f"1024 {1024 * 95}")
     rewritten, claimed = text("widest, block 63 of volume 1, written", g.B), text("widest, block 63 of volume 0", g.B)
+    t.starts(1)
+    t.write(0, 63, claimed, "22 0")
+    t.given("start 0")
     t.write(0, 63, claimed, "22 1")
+    t.starts(1)
     t.write(1, 63, rewritten, "0 rewritten 0 0")
     t.reads((1, 62, first[62]), (1, 63, rewritten))
     t.say("Key 0 knows nothing of volume 1, and a claim takes its slice.")
     t.open(image.key[0], "0 0")
     t.reads((0, 0, None), (0, 63, None))
+    t.starts(0)
     t.write(0, 63, claimed, "0 claimed 0 1")
+    t.starts(1)
     t.reads((0, 0, None), (0, 1, None), (0, 62, None), (0, 63, claimed))
     t.close("0")
     t.open(image.key[0], "0 0")
@@ -1598,7 +1684,8 @@ def ignored():
     t.open(image.key[1], "0 1")
     t.reads(*small_blocks(0, 1))
     t.write(0, 5, small_text(0, 5), "0 rewritten 2 0")
-    t.write(1, 8, small_text(1, 8), "0 claimed 3 3")
+    t.starts(2)
+    t.write(1, 8, small_text(1, 8), "0 claimed 3 1")
     t.reads((0, 4, small_text(0, 4)), (0, 5, small_text(0, 5)), (1, 8, small_text(1, 8)), (1, 9, None))
     t.close("0")
     t.open(image.key[1], "0 1")
@@ -1703,7 +1790,7 @@ def format_small():
     t.given("owners 7 0 255 1")
     t.given("permutation 2 0 3 1")
     t.given(f"tape {format_tape()}")
-    t.given(f"session 4096 3 2 1 1 {Noise('no session').take(32).hex()}")
+    t.given(f"session {OTHER_SESSION}")
 
     t.say("One key. Tables and session are not the formatting's.")
     t.format(key[:1], "0")
@@ -1730,8 +1817,9 @@ def format_small():
     t.say("A session: claims of all three volumes, a rewrite, a close, and the next openings.")
     t.open(key[2], "0 2")
     t.write(1, 5, some[0], "0 claimed 2 1")
-    t.write(0, 0, some[1], "0 claimed 0 2")
-    t.write(2, 15, some[2], "0 claimed 3 3")
+    t.write(0, 0, some[1], "0 claimed 0 1")
+    t.write(2, 15, some[2], "0 claimed 3 1")
+    t.starts(3)
     t.write(1, 6, some[1], "0 rewritten 2 0")
     t.reads((1, 5, some[0]), (1, 6, some[1]), (1, 4, None), (0, 0, some[1]), (2, 15, some[2]))
     t.close("0")
@@ -1746,7 +1834,9 @@ def format_small():
     t.say("With this session open and volumes in use: the same formatting makes the same device. The session stays, and what",
           "it holds of the old device is now noise.")
     t.given("position 7")
+    t.starts(3)
     t.format(key[:3], "0")
+    t.starts(3)
     t.image("formatted.img")
     t.read(1, 5, "0")
     t.read(0, 4, "0", bytes(g.B))
@@ -1785,8 +1875,8 @@ def format_small():
         t.read(i + 1, 0, "11")
     t.given("position 0")
     t.write(14, 3, some[0], "0 claimed 2 1")
-    t.write(0, 3, some[1], "0 claimed 0 2")
-    t.write(7, 3, some[2], "0 claimed 3 3")
+    t.write(0, 3, some[1], "0 claimed 0 1")
+    t.write(7, 3, some[2], "0 claimed 3 1")
     t.close("0")
     t.open(key[14], "0 14")
     t.reads((14, 3, some[0]), (0, 3, some[1]), (7, 3, some[2]), (13, 3, None), (14, 2, None))
@@ -1848,7 +1938,8 @@ def format_sizes():
             t.read(i, g.P * g.S, "12")
             t.read(i + 1, 0, "11")
         for n, (volume, address) in enumerate(places):
-            t.write(volume, address, text(f"formatted, size {g.B}, block {address}", g.B), f"0 claimed {g.P - 1 - n} {n + 1}")
+            t.write(volume, address, text(f"formatted, size {g.B}, block {address}", g.B), f"0 claimed {g.P - 1 - n} 1")
+            t.starts(n + 1)
         if places:
             if g.B == 4096:
                 t.given("position 0")
@@ -1872,7 +1963,7 @@ def format_refusals():
     t.given("maps 60 7")
     t.given("owners 7 0 255 1")
     t.given("permutation 2 0 3 1")
-    t.given(f"session 4096 3 2 1 1 {Noise('no session').take(32).hex()}")
+    t.given(f"session {OTHER_SESSION}")
 
     t.say("1: geometries that are not allowed, with everything else wrong too.")
     t.given("device small.img 0")
@@ -2006,7 +2097,7 @@ def lower_cells():
     t.given("owners 7 0 255 1")
     t.given("permutation 2 0 3 1")
     t.given(f"tape {tape_words}")
-    t.given(f"session 4096 3 2 1 1 {Noise('no session').take(32).hex()}")
+    t.given(f"session {OTHER_SESSION}")
 
     t.say("24: the second key of cell 0 is key 1.")
     t.given("position 2000")
@@ -2084,6 +2175,302 @@ def lower_cells():
     t.finish()
 
 
+def start_places():
+    """Where claims begin to look."""
+    image = small_image()
+    key = image.key
+    formatted = format_keys(0, 1, 2)
+    some, other = small_text(0, 0, "fourth"), small_text(1, 0, "fourth")
+    t = Transcript(
+        "start-places.txt",
+        "Where a claim begins to look: the start place as openings, claims, a 22 and other refusals leave it, and as it is",
+        "handed in.",
+    )
+    t.lend("small.img", SMALL, [2, 0, 3, 1], tape("start places", 4608), 0)
+
+    t.say("Openings. With key 0 slice 2 is held, with key 1 slice 0 too, with key 2 slice 3 too.")
+    for permutation, places in (
+        ("2 0 3 1", (1, 2, 3)), ("2 0 1 3", (1, 2, 2)), ("2 1 0 3", (1, 1, 1)), ("1 2 0 3", (0, 0, 0)), ("0 1 2 3", (0, 1, 1)),
+        ("2 3 0 1", (1, 1, 3)), ("3 2 0 1", (0, 0, 3)), ("0 2 3 1", (0, 2, 3)), ("3 0 2 1", (0, 0, 3)),
+    ):
+        t.given(f"permutation {permutation}")
+        for i, place in enumerate(places):
+            t.open(key[i], f"0 {i}")
+            t.starts(place)
+
+    t.say("With 2, 0, 3 held of the permutation 2 0 3 1 the claim has count 1. Other calls leave the start place.")
+    t.given("permutation 2 0 3 1")
+    t.open(key[2], "0 2")
+    t.starts(3)
+    t.reads((0, 4, small_text(0, 4)), (0, 0, None))
+    t.read(3, 0, "11")
+    t.find(0, 4, "1024 43008")
+    t.write(0, 5, some, "0 rewritten 2 0")
+    t.write(0, 16, some, "12 0")
+    t.starts(3)
+    t.write(0, 0, some, "0 claimed 1 1")
+    t.starts(4)
+    t.say("With all held it is 22 with count 0, again and again.")
+    t.write(0, 8, some, "22 0")
+    t.write(1, 0, some, "22 0")
+    t.starts(4)
+    t.reads((0, 0, some), (0, 8, None), (1, 13, small_text(1, 13)))
+    t.write(0, 1, other, "0 rewritten 1 0")
+    t.find(0, 1, "1024 38912")
+    t.starts(4)
+    t.say("A close leaves it, and the next openings find all held, or what volumes above k hold free.")
+    t.close("0")
+    t.starts(4)
+    t.close("20")
+    t.write(0, 1, other, "20 0")
+    t.open(key[2], "0 2")
+    t.starts(4)
+    t.write(0, 8, some, "22 0")
+    t.open(key[0], "0 0")
+    t.starts(1)
+    t.given("permutation 1 2 3 0")
+    t.open(key[1], "0 1")
+    t.starts(2)
+
+    t.say("Claims on a device without any slice held. The counts add up to 4, which is P.")
+    t.given("device formatted.img 52224")
+    t.given("permutation 2 0 3 1")
+    t.given("position 0")
+    t.open(formatted[2], "0 2")
+    t.starts(0)
+    for n, (volume, address, slice) in enumerate(((1, 0, 2), (0, 0, 0), (2, 15, 3), (1, 7, 1))):
+        t.write(volume, address, some, f"0 claimed {slice} 1")
+        t.starts(n + 1)
+        t.write(1, 1, other, "0 rewritten 2 0")
+        t.starts(n + 1)
+    t.write(0, 4, some, "22 0")
+    t.starts(4)
+    t.say("The same with a slice held between. The counts add up to 3, for the place of slice 1 is not reached.")
+    t.given("device small.img 52224")
+    t.given("permutation 0 2 3 1")
+    t.given("position 0")
+    t.open(key[0], "0 0")
+    t.starts(0)
+    t.write(0, 0, some, "0 claimed 0 1")
+    t.starts(1)
+    t.write(0, 8, some, "0 claimed 3 2")
+    t.starts(3)
+    t.say("A claim that is not closed is lost, and its place is the first free one again.")
+    t.open(key[0], "0 0")
+    t.starts(0)
+
+    t.say("A 22 inside a session, with the start place below P: slice 1 is held now. The start place is then P, and stays so",
+          "where the slice is free again, until the next opening.")
+    t.given("permutation 2 0 3 1")
+    t.open(key[2], "0 2")
+    t.given("owner 1 9")
+    t.starts(3)
+    t.write(0, 0, some, "22 1")
+    t.starts(4)
+    t.write(0, 0, some, "22 0")
+    t.given("owner 1 0")
+    t.write(0, 0, some, "22 0")
+    t.starts(4)
+    t.say("Everything but a claim is served as before.")
+    t.reads((0, 4, small_text(0, 4)), (0, 0, None))
+    t.find(2, 0, "1024 48128")
+    t.write(2, 0, some, "0 rewritten 3 0")
+    t.reads((2, 0, some))
+    t.starts(4)
+    t.close("0")
+    t.starts(4)
+    t.open(key[2], "0 2")
+    t.starts(3)
+    t.given("position 0")
+    t.write(0, 0, some, "0 claimed 1 1")
+    t.starts(4)
+
+    t.say("Start places handed in, 0 to P. With slice 1 free alone, which stands last:")
+    t.given("device small.img 52224")
+    t.open(key[2], "0 2")
+    for start in range(4):
+        t.given(f"start {start}")
+        t.given("position 0")
+        t.write(0, 0, some, f"0 claimed 1 {4 - start}")
+        t.starts(4)
+        t.given("entry 0 0 -")
+        t.given("owner 1 0")
+    t.given("start 4")
+    t.write(0, 0, some, "22 0")
+    t.starts(4)
+    t.say("With all slices free:")
+    for start, slice in enumerate((2, 0, 3, 1)):
+        t.given("owners 0 0 0 0")
+        t.given(f"start {start}")
+        t.given("position 0")
+        t.write(0, 0, some, f"0 claimed {slice} 1")
+        t.starts(start + 1)
+        t.given("entry 0 0 -")
+    t.given("owners 0 0 0 0")
+    t.given("start 4")
+    t.write(0, 0, some, "22 0")
+    t.starts(4)
+    t.say("With all held, and no tape left: 22 comes before 21.")
+    t.given("owners 2 255 1 3")
+    for start in range(5):
+        for position in (4608, 4609, 2**64 - 1):
+            t.given(f"start {start}")
+            t.given(f"position {position}")
+            t.write(0, 0, some, f"22 {4 - start}")
+            t.starts(4)
+
+    t.say("P itself is no refusal: reads, finds, rewrites and a close are served.")
+    t.given("device small.img 52224")
+    t.open(key[2], "0 2")
+    t.given("start 4")
+    t.given("position 0")
+    t.reads((0, 4, small_text(0, 4)), (0, 0, None))
+    t.find(0, 4, "1024 43008")
+    t.write(0, 4, some, "0 rewritten 2 0")
+    t.starts(4)
+    t.close("0")
+    t.starts(4)
+    t.say("Above P it is 20, also in calls that look at no place. The start place stays.")
+    t.open(key[2], "0 2")
+    for start in (5, 6, 255, 256, 257, 260, 65536 + 3, 2**32, 2**32 + 3, 2**32 + 4, 2**63, 2**63 + 3, 2**64 - 4, 2**64 - 1):
+        t.given(f"start {start}")
+        t.read(0, 4, "20")
+        t.read(0, 0, "20")
+        t.find(0, 4, "0")
+        t.find(0, 0, "0")
+        t.write(0, 4, some, "20 0")
+        t.write(0, 0, some, "20 0")
+        t.close("20")
+        t.starts(start)
+    t.say("It comes before 2, 4, 5, 11 and 21.")
+    t.given("device small.img 52223")
+    for line in ("owners 2 0 1", "permutation 2 0 3", "position 4609"):
+        t.given(line)
+    for start, answer in ((5, "20"), (4, "2")):
+        t.given(f"start {start}")
+        t.read(15, 0, answer)
+        t.write(15, 0, some, f"{answer} 0")
+        t.close(answer)
+    t.given("device small.img 52224")
+    t.given("owners 2 0 1 3")
+    t.given("permutation 2 0 3 1")
+
+    t.say("Another permutation than at the opening: 22 although slice 1, at an earlier place, is free.")
+    t.open(key[2], "0 2")
+    t.given("permutation 1 2 0 3")
+    t.starts(3)
+    t.write(0, 0, some, "22 1")
+    t.starts(4)
+    t.given("permutation 2 0 3 1")
+    t.write(0, 0, some, "22 0")
+    t.say("Another free slice than the first, and an earlier one that no claim of the session finds.")
+    t.open(key[0], "0 0")
+    t.starts(1)
+    t.given("permutation 0 3 1 2")
+    t.given("position 0")
+    t.write(0, 0, some, "0 claimed 3 1")
+    t.starts(2)
+    t.write(0, 8, other, "0 claimed 1 1")
+    t.starts(3)
+    t.write(0, 12, some, "22 1")
+    t.starts(4)
+    t.say("A slice that the session claimed already is held, wherever it stands.")
+    t.given("start 0")
+    t.given("permutation 3 1 2 0")
+    t.write(0, 12, other, "0 claimed 0 4")
+    t.starts(4)
+
+    t.say("Places that name no slice: before the start place they are not met.")
+    t.given("device small.img 52224")
+    t.given("permutation 2 0 3 1")
+    t.open(key[2], "0 2")
+    t.given("position 0")
+    t.given("permutation 4 4294967295 4097 1")
+    t.write(0, 0, some, "0 claimed 1 1")
+    t.starts(4)
+    t.given("permutation 4 4 4 4")
+    t.write(0, 8, some, "22 0")
+    t.starts(4)
+    t.say("At the start place or behind it, before a free one, they are 5 with the looks from there on; the start place stays.")
+    t.given("owners 2 0 1 0")
+    t.given("position 4609")
+    for start, permutation, probes in (
+        (0, "4 1 3 0", 1), (1, "2 4 1 3", 1), (1, "2 0 4 1", 2), (1, "2 0 2 4294967295", 3), (2, "2 0 4 1", 1), (2, "1 3 0 4", 2),
+        (2, "4 4 2 4097", 2), (3, "1 3 1 4", 1), (3, "4 4 4 2147483648", 1),
+    ):
+        t.given(f"start {start}")
+        t.given(f"permutation {permutation}")
+        t.write(0, 8, some, f"5 {probes}")
+        t.starts(start)
+    t.say("Behind a free one they are not met. 21 has the looks from the start place on; that stays, and the claim that then is",
+          "served has as many.")
+    for start, permutation, slice, probes in (
+        (0, "1 4 4 4", 1, 1), (1, "4 3 4 4", 3, 1), (1, "4 2 3 4", 3, 2), (0, "2 0 2 3", 3, 4), (3, "4 4 4 3", 3, 1),
+        (2, "3 1 0 3", 3, 2),
+    ):
+        t.given("owners 2 0 1 0")
+        t.given(f"start {start}")
+        t.given(f"permutation {permutation}")
+        for position in (3585, 4609):
+            t.given(f"position {position}")
+            t.write(0, 8, some, f"21 {probes}")
+            t.starts(start)
+        t.given("position 3584")
+        t.write(0, 8, some, f"0 claimed {slice} {probes}")
+        t.starts(start + probes)
+        t.given("entry 0 2 -")
+
+    t.say("Other refusals leave it, those of a close too.")
+    t.given("device small.img 52224")
+    t.given("permutation 2 0 3 1")
+    t.open(key[1], "0 1")
+    t.starts(2)
+    t.write(2, 0, some, "11 0")
+    t.write(0, 16, some, "12 0")
+    t.write(0, 0, some[:1023], "13 0")
+    t.given("permutation 2 0 3")
+    t.write(0, 0, some, "5 0")
+    t.given("permutation 2 0 3 1")
+    t.given("position 4608")
+    t.write(0, 4, some, "21 0")
+    t.write(0, 0, some, "21 1")
+    t.close("21")
+    t.given("entry 0 0 4")
+    t.write(0, 0, some, "9 0")
+    t.close("9")
+    t.given("maps 59 -")
+    t.write(0, 0, some, "4 0")
+    t.close("4")
+    t.given("device small.img 0")
+    t.write(0, 0, some, "2 0")
+    t.close("2")
+    t.starts(2)
+    t.say("A close leaves a start place that was handed in.")
+    t.given("device small.img 52224")
+    t.given("maps 60 -")
+    t.open(key[1], "0 1")
+    t.given("start 1")
+    t.given("position 0")
+    t.close("0")
+    t.starts(1)
+    t.read(0, 4, "20")
+
+    t.say("A refused opening leaves 0, whatever it was.")
+    served = f"session 1024 4 4 1 1 4 {image.vek[0].hex()} {image.vek[1].hex()}"
+    for given, opener, answer in (
+        ("geometry 1024 4 0", key[0], "1"), ("device small.img 52223", key[0], "2"), ("device small.img 52224", key[0][:31], "3"),
+        ("owners 1 1 1", key[0], "4"), ("permutation 2 0 3 3", key[0], "5"), ("device no-cell.img 52224", key[0], "6"),
+        ("device header-tag.img 52224", key[2], "7"), ("device header-geometry.img 52224", key[2], "8"),
+        ("device bad-entry.img 52224", key[1], "9"), ("device slice-twice.img 52224", key[2], "10"),
+    ):
+        for line in ("geometry 1024 4 4", "device small.img 52224", "maps 60 -", "owners 2 0 1 0", "permutation 2 0 3 1", served):
+            t.given(line)
+        t.given(given)
+        t.open(opener, answer)
+        t.starts(0)
+    t.finish()
+
+
 def make():
     check_layout()
     FILES["texts.bin"] = bytes(4096)  # zeros first: what an unmapped block reads as
@@ -2103,6 +2490,7 @@ def make():
     format_sizes()
     format_refusals()
     lower_cells()
+    start_places()
 
 
 def main():
