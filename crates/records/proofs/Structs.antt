@@ -6,10 +6,10 @@ use Prim.Native.Nat.{ℕ, _+_, _^_, _<_}
 use native.Mathlib.Omega.{arith}
 use lib.Dec.{eqb}
 use lib.ListN.{length, length-append}
-use borrow.Author.Tests.{eqb-true, ne-eqb}
+use borrow.Author.Tests.{eqb-true, eq-eqb, ne-eqb}
 use Rattle.model.specs.declared.Geometry.{Geometry}
 use Rattle.model.specs.declared.Session.{Session}
-use Rattle.model.specs.Parts.{part, overlay}
+use Rattle.model.specs.Parts.{choose, part, overlay}
 use Rattle.model.proofs.Parts.{part-first, part-next, part-last, part-left, part-right}
 use Rattle.places.proofs.Parts.{overlay-append, overlay-all}
 use Rattle.records.specs.Numbers.{eightAt, eightBytes, threeBytes, littleNumber}
@@ -35,6 +35,14 @@ sessionBytes-length s e =
     length-append (geometryBytes g) (numbers ++ s .keys)
     ∙ ap₂ (λ (m n : ℕ). m + n) (threeBytes-length (g .b) (g .s) (g .p))
     (length-append numbers (s .keys) ∙ ap₂ (λ (m n : ℕ). m + n) (threeBytes-length (s .k) (bitOf (s .opened)) (s .start)) e)
+
+-- A struct of n bytes, of its size m or another: what a call gives, or what stood.
+module _ {A : Type 0} {n m : ℕ} where
+  pub choose-sized : {x a : A} (b : A) → n ≡ m → x ≡ a → x ≡ choose (eqb n m) a b
+  choose-sized b sized e = rw (eq-eqb n m sized) e
+
+  pub choose-other : (a b : A) → (n ≡ m → ⊥) → b ≡ choose (eqb n m) a b
+  choose-other a b other = rw (ne-eqb n m other) refl
 
 -- Two sizes that are not both right.
 pub not-both : (a m b n : ℕ) → (a ≡ m → b ≡ n → ⊥) → (eqb a m && eqb b n) ≡ false

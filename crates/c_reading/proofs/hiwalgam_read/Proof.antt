@@ -1,7 +1,7 @@
 -- `c_reading::hiwalgam_read` meets its contract. Assumes nothing.
 use mathlib.Core.Path.{_∙_}
 use borrow.Author.Needs.{needs}
-use Rattle.c_reading.proofs.Handed.{choose-sized, choose-other}
+use Rattle.records.proofs.Structs.{choose-sized, choose-other}
 use Rattle.c_reading.proofs.hiwalgam_read.Statement.{statement}
 use Rattle.c_reading.proofs.hiwalgam_read.Tie as tie
 

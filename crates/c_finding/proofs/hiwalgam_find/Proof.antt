@@ -1,10 +1,11 @@
--- `c_reading::hiwalgam_find` meets its contract. Assumes nothing.
+-- `c_finding::hiwalgam_find` meets its contract. Assumes nothing.
 use mathlib.Core.Path.{ap}
 use lib.ListN.{length}
 use borrow.Author.Needs.{needs}
-use Rattle.c_reading.proofs.Handed.{choose-sized, choose-other, copiedOver-room, copiedOver-none}
-use Rattle.c_reading.proofs.hiwalgam_find.Statement.{statement}
-use Rattle.c_reading.proofs.hiwalgam_find.Tie as tie
+use Rattle.records.proofs.Structs.{choose-sized, choose-other}
+use Rattle.c_finding.proofs.Handed.{copiedOver-room, copiedOver-none}
+use Rattle.c_finding.proofs.hiwalgam_find.Statement.{statement}
+use Rattle.c_finding.proofs.hiwalgam_find.Tie as tie
 
 returns : tie.Need-returns
 returns c = (choose-other _ _ (c .if1 .taken), choose-other _ _ (c .if1 .taken))
