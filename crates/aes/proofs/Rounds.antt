@@ -3,8 +3,9 @@ use mathlib.Core.Path.{_≡_, _∙_, ap, ap₂, sym}
 use mathlib.Core.List.{List}
 use Prim.Native.Nat.{ℕ, suc, _≤_, _+_, _-_}
 use native.Mathlib.Omega.{arith}
-use Rattle.aes.specs.State.{addRoundKey}
-use Rattle.aes.specs.Cipher.{roundKey, roundOf, lastRound, rounds, cipherState}
+use Rattle.rounds.specs.State.{addRoundKey}
+use Rattle.rounds.specs.Round.{roundOf, lastRound}
+use Rattle.aes.specs.Cipher.{roundKey, rounds, cipherState}
 
 -- A turn of the loop: one round more.
 pub rounds-more : (w : List ℕ) (x₀ x k : List (List ℕ)) (n : ℕ) → 1 ≤ n → x ≡ rounds w x₀ (n - 1) → k ≡ roundKey w n

@@ -6,9 +6,9 @@ use native.Mathlib.Numerals.{add-one}
 use native.Mathlib.Omega.{arith}
 use lib.ListN.{length, getD, take, drop, set, length-append}
 use lib.Seq.{take-all, take-suc, take-suc-set, take-at, getD-take, length-take-le, sets-eq}
-use Rattle.aes.specs.State.{addWord}
+use Rattle.rounds.specs.State.{addWord}
 use Rattle.aes.specs.KeyExpansion.{wordAt, changedWord, nextWord, schedule, keyExpansion}
-use Rattle.aes.proofs.Words.{four-equal}
+use Rattle.rounds.proofs.Words.{four-equal}
 
 pub schedule-length : (key : List ℕ) → length key ≡ 32 → (n : ℕ) → length (schedule key n) ≡ 32 + 4 * n
 unfolding schedule nextWord

@@ -1,20 +1,13 @@
 -- FIPS 197, section 5.1: the cipher of AES-256 (Nr = 14), from a schedule and a block of 16 bytes. Assumes nothing.
 use Prim.Native.Nat.{ℕ, zero, suc, _+_, _*_}
 use mathlib.Core.List.{List, [], _∷_}
-use Rattle.aes.specs.State.{stateOf, bytesOf, subBytes, shiftRows, mixColumns, addRoundKey}
+use Rattle.rounds.specs.State.{stateOf, bytesOf, addRoundKey}
+use Rattle.rounds.specs.Round.{roundOf, lastRound}
 use Rattle.aes.specs.KeyExpansion.{wordAt}
 
 -- Round key n: the words 4n to 4n + 3 of a schedule.
 abbrev pub roundKey : List ℕ → ℕ → List (List ℕ)
 roundKey w n = wordAt w (4 * n) ∷ wordAt w (4 * n + 1) ∷ wordAt w (4 * n + 2) ∷ wordAt w (4 * n + 3) ∷ []
-
--- A round of Algorithm 1, on the state, with its round key.
-unfoldable pub roundOf : List (List ℕ) → List (List ℕ) → List (List ℕ)
-roundOf s k = addRoundKey (mixColumns (shiftRows (subBytes s))) k
-
--- The last round, which has no MIXCOLUMNS.
-unfoldable pub lastRound : List (List ℕ) → List (List ℕ) → List (List ℕ)
-lastRound s k = addRoundKey (shiftRows (subBytes s)) k
 
 -- The state s after the rounds 1 to n.
 unfoldable pub rounds : List ℕ → List (List ℕ) → ℕ → List (List ℕ)

@@ -5,7 +5,7 @@ use mathlib.Core.List.{List, [], _∷_, _++_}
 use mathlib.Core.Bool.{Bool, true, false}
 use lib.Dec.{eqb}
 use lib.ListN.{getD}
-use Rattle.aes.specs.State.{four, subWord, addWord}
+use Rattle.rounds.specs.State.{four, subWord, addWord}
 
 -- w[i], word i of a schedule.
 abbrev pub wordAt : List ℕ → ℕ → List ℕ

@@ -1,4 +1,3 @@
-pub mod State
 pub mod KeyExpansion
 pub mod Cipher
 pub mod Theorems

@@ -1,4 +1,4 @@
--- Laws of the counter blocks: each is the one before plus one, over all 128 bits. Assumes nothing.
+-- Laws of the counter blocks, each the one before plus one, over all 128 bits; and counter mode over a record of round keys. Assumes nothing.
 use Prim.Native.Nat.{ℕ, _+_, _/_, _%_, _^_, _<_}
 use mathlib.Core.Path.{_≡_, refl, sym, ap, ap₂, _∙_}
 use mathlib.Core.List.{List}
@@ -12,7 +12,9 @@ use Rattle.block.proofs.Bytes.{number-bigEndian, bigEndian-number, bigEndian-++
 use Rattle.block.proofs.Window.{window-part}
 use Rattle.aes.specs.KeyExpansion.{keyExpansion}
 use Rattle.aes.specs.Cipher.{cipher}
-use Rattle.ctr.specs.CounterMode.{increment, counterAt, outputBlock, streamByte, keystreamByte, keystream, stream, xors, ctrFrom}
+use Rattle.aes.specs.declared.RoundKeys.{RoundKeys}
+use Rattle.ctr.proofs.Xors.{xors-length}
+use Rattle.ctr.specs.CounterMode.{increment, counterAt, outputBlock, streamByte, keystreamByte, keystream, stream, xors, ctrFrom, ctr, ctrOver}
 
 -- The bytes of a number are those of its low 128 bits.
 bigEndian-low : (x : ℕ) → bigEndian 16 (x % 2 ^ 128) ≡ bigEndian 16 x
@@ -53,9 +55,23 @@ output-low w x eb ey = ap (cipher w) (eb ∙ ap (bigEndian 16) ey ∙ bigEndian-
 pub number-iv : (iv : List ℕ) → length iv ≡ 16 → number (window iv 0 16) ≡ number iv
 number-iv iv e = ap number (window-part iv 0 16 (omega arith) ∙ take-all 16 iv (omega arith))
 
--- Counter mode, from the schedule and the number of the IV.
-pub ctrFrom-schedule : (key iv : List ℕ) (n : ℕ) (text : List ℕ) {w : List ℕ} {x : ℕ} → w ≡ keyExpansion key → x ≡ number (window iv 0 16)
-    → length iv ≡ 16 → xors text (stream w x n (length text)) ≡ ctrFrom key iv n text
-unfolding ctrFrom keystream
-ctrFrom-schedule key iv n text ew ex h =
-    ap₂ (λ (u : List ℕ) (y : ℕ). xors text (stream u y n (length text))) ew (ex ∙ number-iv iv h)
+-- ---- over a record of round keys
+
+pub over-from : (keys : RoundKeys) (key iv : List ℕ) (n : ℕ) (text : List ℕ) → keys .schedule ≡ keyExpansion key
+    → ctrOver keys (number iv) n text ≡ ctrFrom key iv n text
+unfolding ctrOver ctrFrom keystream
+over-from keys key iv n text e = ap (λ (w : List ℕ). xors text (stream w (number iv) n (length text))) e
+
+pub over-whole : (keys : RoundKeys) (key iv text : List ℕ) → keys .schedule ≡ keyExpansion key → ctrOver keys (number iv) 0 text ≡ ctr key iv text
+unfolding ctr
+over-whole keys key iv text e = over-from keys key iv 0 text e
+
+pub over-length : (keys : RoundKeys) (x n : ℕ) (text : List ℕ) → length (ctrOver keys x n text) ≡ length text
+unfolding ctrOver
+over-length keys x n text = xors-length text _
+
+-- Counter mode of the key, from an IV that was loaded as a block with the number x.
+pub over-loaded : (keys : RoundKeys) (key iv : List ℕ) (n : ℕ) (text : List ℕ) {x : ℕ} → keys .schedule ≡ keyExpansion key
+    → x ≡ number (window iv 0 16) → length iv ≡ 16 → ctrOver keys x n text ≡ ctrFrom key iv n text
+over-loaded keys key iv n text e ex h =
+    ap (λ (y : ℕ). ctrOver keys y n text) (ex ∙ number-iv iv h) ∙ over-from keys key iv n text e

@@ -1,41 +1,15 @@
 -- Laws of the sum of two lists of bytes. Assumes nothing.
-use Prim.Native.Nat.{ℕ, zero, suc, _+_, _*_, _/_, _%_, _<_}
+use Prim.Native.Nat.{ℕ, zero, suc, _<_}
 use mathlib.Core.Path.{_≡_, refl, ap, ap₂, _∙_}
 use mathlib.Core.List.{List, [], _∷_}
-use native.Mathlib.Nat.{div-add-mod', mod-lt}
 use native.Mathlib.Omega.{arith}
-use lib.Arith.{bin-ind, digits-div, digits-mod}
-use lib.Bits.{bitXor, differ, xor-step, xor-comm}
+use lib.Bits.{bitXor, xor-self, xor-zero-r}
 use lib.ListN.{length, getD, take, drop}
+use Rattle.rounds.proofs.Linear.{xor-assoc}
 use Rattle.ctr.specs.CounterMode.{xors}
 
--- ---- of two numbers, bit by bit
-
-differ-twice : (x y : ℕ) → x < 2 → y < 2 → (differ y (differ y x) ≡ x) × (differ y x < 2)
-differ-twice zero zero h k = (refl, omega arith)
-differ-twice zero (suc zero) h k = (refl, omega arith)
-differ-twice (suc zero) zero h k = (refl, omega arith)
-differ-twice (suc zero) (suc zero) h k = (refl, omega arith)
-differ-twice (suc (suc x)) y h k = absurd (omega arith)
-differ-twice zero (suc (suc y)) h k = absurd (omega arith)
-differ-twice (suc zero) (suc (suc y)) h k = absurd (omega arith)
-
-xor-cancel : (k a : ℕ) → bitXor k (bitXor k a) ≡ a
-xor-cancel = bin-ind (λ (k : ℕ). (a : ℕ) → bitXor k (bitXor k a) ≡ a) (λ a. refl) (λ k ih a.
-    let x = bitXor (k / 2) (a / 2) in
-    let r = differ (k % 2) (a % 2) in
-    let b = differ-twice (a % 2) (k % 2) (mod-lt a (omega arith)) (mod-lt k (omega arith)) in
-    ap (bitXor k) (xor-step k a)
-    ∙ xor-step k (x * 2 + r)
-    ∙ ap₂ (λ (p q : ℕ). p * 2 + q)
-    (ap (bitXor (k / 2)) (digits-div x (b .1)) ∙ ih (a / 2))
-    (ap (differ (k % 2)) (digits-mod x (b .1)) ∙ b .0)
-    ∙ div-add-mod' a 2)
-
 pub xor-twice : (a k : ℕ) → bitXor (bitXor a k) k ≡ a
-xor-twice a k = xor-comm (bitXor a k) k ∙ ap (bitXor k) (xor-comm a k) ∙ xor-cancel k a
-
--- ---- of two lists
+xor-twice a k = xor-assoc a k k ∙ ap (bitXor a) (xor-self k) ∙ xor-zero-r a
 
 pub xors-twice : (xs ks : List ℕ) → xors (xors xs ks) ks ≡ xs
 unfolding xors

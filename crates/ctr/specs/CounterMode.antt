@@ -7,6 +7,7 @@ use lib.Bits.{bitXor}
 use Rattle.block.specs.Bytes.{number, bigEndian}
 use Rattle.aes.specs.KeyExpansion.{keyExpansion}
 use Rattle.aes.specs.Cipher.{cipher}
+use Rattle.aes.specs.declared.RoundKeys.{RoundKeys}
 
 -- The counter block after c: one more over all 128 bits, so that all FF is followed by all 00.
 unfoldable pub increment : List ℕ → List ℕ
@@ -50,3 +51,8 @@ ctrFrom key iv n text = xors text (keystream key iv n (length text))
 -- Counter mode of a text, enciphering and deciphering alike.
 unfoldable pub ctr : List ℕ → List ℕ → List ℕ → List ℕ
 ctr key iv text = ctrFrom key iv 0 text
+
+-- Counter mode over a record of round keys (document 02, P3), from the counter block with the number x, of a text that begins at byte n
+-- of a longer one.
+unfoldable pub ctrOver : RoundKeys → ℕ → ℕ → List ℕ → List ℕ
+ctrOver keys x n text = xors text (stream (keys .schedule) x n (length text))

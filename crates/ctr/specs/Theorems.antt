@@ -5,7 +5,9 @@ use mathlib.Core.List.{List}
 use lib.ListN.{length, take, drop, replicate, getD}
 use Rattle.aes.specs.KeyExpansion.{keyExpansion}
 use Rattle.aes.specs.Cipher.{cipher}
-use Rattle.ctr.specs.CounterMode.{increment, counterAt, keystreamByte, keystream, ctrFrom, ctr}
+use Rattle.aes.specs.declared.RoundKeys.{RoundKeys}
+use Rattle.block.specs.Bytes.{number}
+use Rattle.ctr.specs.CounterMode.{increment, counterAt, keystreamByte, keystream, ctrFrom, ctr, ctrOver}
 
 pub record CtrLaws : Type 0 where
   -- Twice with one key and IV is the text again, and the length stays.
@@ -21,3 +23,8 @@ pub record CtrLaws : Type 0 where
   -- Byte n of the keystream is one of the cipher of counter block n / 16, and the keystream is made of these bytes.
   pub byte : (key iv : List ℕ) (n : ℕ) → keystreamByte key iv n ≡ getD (cipher (keyExpansion key) (counterAt iv (n / 16))) (n % 16) 0
   pub bytes : (key iv : List ℕ) (n len i : ℕ) → i < len → getD (keystream key iv n len) i 0 ≡ keystreamByte key iv (n + i)
+  -- Counter mode over the round keys of a key is counter mode of the key, for every key, IV and text (document 02, P3).
+  pub over-round-keys : (keys : RoundKeys) (key iv text : List ℕ) → keys .schedule ≡ keyExpansion key
+      → ctrOver keys (number iv) 0 text ≡ ctr key iv text
+  pub over-round-keys-from : (keys : RoundKeys) (key iv : List ℕ) (n : ℕ) (text : List ℕ) → keys .schedule ≡ keyExpansion key
+      → ctrOver keys (number iv) n text ≡ ctrFrom key iv n text

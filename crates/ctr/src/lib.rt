@@ -1,7 +1,7 @@
 // Counter mode under AES-256 (SP 800-38A, section 6.5).
 //
 // `counter_mode` is the public call: any arguments, refused by 3 or 13 or served. `ctr_into` and `ctr_from_into` are for
-// callers that have no refusal left to make, and `apply_keystream` for those that hold a schedule. One loop serves all
+// callers that have no refusal left to make, and `apply_keystream` for those that hold round keys. One loop serves all
 // of them: block n has the counter of the IV plus n, computed anew, so that a text may begin at any byte.
 ghost use mathlib.Core.Path.{_≡_};
 ghost use Prim.Native.Nat.{_+_, _*_, _/_, _^_, _<_, _≤_};
@@ -9,24 +9,25 @@ ghost use lib.ListN.{length};
 ghost use Rattle.block.specs.Number.{blockNumber};
 ghost use Rattle.field.specs.Sbox.{IsSbox};
 ghost use Rattle.refusals.specs.Numbers.{answerNumber, unlessRefused};
-ghost use Rattle.ctr.specs.CounterMode.{outputBlock, stream, xors, ctrFrom, ctr};
+ghost use Rattle.ctr.specs.CounterMode.{outputBlock, ctrFrom, ctr, ctrOver};
 ghost use Rattle.ctr.specs.Call.{ctrRefusal};
 ghost use Rattle.ctr.specs.Theorems.{CtrLaws};
+use aes::RoundKeys;
 use block::Block;
 use refusals::Answer;
 use refusals::Refusal;
 
 // The output block of the counter block that is n after iv.
-pub fn output_block(t: &[u8; 256], w: &[u8; 240], iv: Block, n: usize) -> [u8; 16]
+pub fn output_block(t: &[u8; 256], keys: RoundKeys, iv: Block, n: usize) -> [u8; 16]
     requires { ⌜ IsSbox (now t) ⌝ }
-    ensures { λ r. ⌜ r ≡ outputBlock (now (w .entry)) (blockNumber iv + n) ⌝ }
+    ensures { λ r. ⌜ r ≡ outputBlock (keys .schedule) (blockNumber iv + n) ⌝ }
 {
     let counter = block::block_bytes(block::add(iv, n as u64));
-    aes::encrypt_block(t, w, counter)
+    aes::encrypt_block(t, keys, counter)
 }
 
 // The end of the bytes of a text of len bytes that stand in one block with byte i, the text beginning at byte n.
-fn block_end(n: usize, i: usize, len: usize) -> usize
+pub fn block_end(n: usize, i: usize, len: usize) -> usize
     requires { ⌜ (i < len) × (n + len < 2 ^ 63) ⌝ }
     ensures { λ r. ⌜ (i < r) × (r ≤ len) × (n + r ≤ (n + i) / 16 * 16 + 16) ⌝ }
 {
@@ -37,10 +38,10 @@ fn block_end(n: usize, i: usize, len: usize) -> usize
     end
 }
 
-// The sum of a text and the stream from byte n on, under a schedule.
+// Counter mode over round keys, from the counter block iv, of a text that begins at byte n of a longer one.
 pub fn apply_keystream(
     t: &[u8; 256],
-    w: &[u8; 240],
+    keys: RoundKeys,
     iv: Block,
     n: usize,
     text: &[u8],
@@ -49,11 +50,11 @@ pub fn apply_keystream(
     requires { ⌜ IsSbox (now t) ⌝ }
     requires { ⌜ length (now out) ≡ length (now text) ⌝ }
     requires { ⌜ n + length (now text) < 2 ^ 63 ⌝ }
-    ensures { λ r. ⌜ now (out .exit) ≡ xors (now (text .entry)) (stream (now (w .entry)) (blockNumber iv) n (length (now (text .entry)))) ⌝ }
+    ensures { λ r. ⌜ now (out .exit) ≡ ctrOver keys (blockNumber iv) n (now (text .entry)) ⌝ }
 {
     let mut i = 0;
     while i < text.len() {
-        let s = output_block(t, w, iv, (n + i) / 16);
+        let s = output_block(t, keys, iv, (n + i) / 16);
         let end = block_end(n, i, text.len());
         while i < end {
             let r = (n + i) % 16;
@@ -72,9 +73,9 @@ pub fn ctr_from_into(key: &[u8], iv: &[u8], n: usize, text: &[u8], out: &mut [u8
     ensures { λ r. ⌜ now (out .exit) ≡ ctrFrom (now (key .entry)) (now (iv .entry)) n (now (text .entry)) ⌝ }
 {
     let t = field::sbox_table();
-    let w = aes::key_expansion(&t, key);
+    let keys = aes::round_keys(&t, key);
     let c = block::load_block(iv, 0);
-    apply_keystream(&t, &w, c, n, text, out);
+    apply_keystream(&t, keys, c, n, text, out);
 }
 
 // Counter mode of a text.

@@ -12,7 +12,8 @@ use Rattle.block.specs.Bytes.{number, numberAfter, bigEndian, window}
 use Rattle.block.proofs.Bytes.{number-++, number-<, Bytes, bigEndian-length}
 use Rattle.block.proofs.Window.{window-++, window-part}
 use Rattle.aes.specs.KeyExpansion.{keyExpansion}
-use Rattle.ctr.specs.CounterMode.{outputBlock, streamByte, stream, xors}
+use Rattle.aes.specs.declared.RoundKeys.{RoundKeys}
+use Rattle.ctr.specs.CounterMode.{outputBlock, streamByte, stream, xors, ctrOver}
 use Rattle.ctr.proofs.Xors.{xors-length, xors-twice}
 use Rattle.ghash.specs.Hash.{ghash}
 use Rattle.gcm.specs.Gcm.{inc32, gctrCounter, gctrStream, gctr, subkey, J0, hashInput, tagUnder, gcmTag, gcmText}
@@ -35,10 +36,11 @@ stream-low w v k n (suc len) h =
     (stream-low w v k (n + 1) len (omega arith))
 
 -- GCTR as counter mode makes it, from a counter block whose lowest 32 bits do not wrap.
-gctr-stream : (w : List ℕ) (v k : ℕ) (text : List ℕ) {x y : ℕ} → k + length text < 2 ^ 32 → x ≡ v * 2 ^ 32 + k → y ≡ v * 2 ^ 32 + k
-    → xors text (stream w x 0 (length text)) ≡ gctr w y text
-unfolding gctr
-gctr-stream w v k text h ex ey =
+gctr-over : (keys : RoundKeys) (v k : ℕ) (text : List ℕ) {x y : ℕ} → k + length text < 2 ^ 32 → x ≡ v * 2 ^ 32 + k → y ≡ v * 2 ^ 32 + k
+    → ctrOver keys x 0 text ≡ gctr (keys .schedule) y text
+unfolding gctr ctrOver
+gctr-over keys v k text h ex ey =
+    let w = keys .schedule in
     ap (λ (z : ℕ). xors text (stream w z 0 (length text))) ex
     ∙ ap (xors text) (stream-low w v k 0 (length text) (omega arith))
     ∙ ap (λ (z : ℕ). xors text (gctrStream w z 0 (length text))) (sym ey)
@@ -85,11 +87,11 @@ counter-iv iv k b r e bytes h eb er =
 
 module _ (key iv : List ℕ) where
   -- The text, as counter mode makes it.
-  pub text-stream : (text : List ℕ) {w o : List ℕ} {x : ℕ} → w ≡ keyExpansion key → x ≡ number iv * 2 ^ 32 + 2 → length text ≤ 4096
-      → o ≡ xors text (stream w x 0 (length text)) → o ≡ gcmText key iv text
+  pub text-over : (text : List ℕ) {keys : RoundKeys} {o : List ℕ} {x : ℕ} → keys .schedule ≡ keyExpansion key → x ≡ number iv * 2 ^ 32 + 2
+      → length text ≤ 4096 → o ≡ ctrOver keys x 0 text → o ≡ gcmText key iv text
   unfolding gcmText
-  text-stream text {w} ew ex h eo =
-      eo ∙ gctr-stream w (number iv) 2 text (omega arith) ex (inc32-J0 iv) ∙ ap (λ (u : List ℕ). gctr u (inc32 (J0 iv)) text) ew
+  text-over text {keys} ew ex h eo =
+      eo ∙ gctr-over keys (number iv) 2 text (omega arith) ex (inc32-J0 iv) ∙ ap (λ (u : List ℕ). gctr u (inc32 (J0 iv)) text) ew
 
   pub text-length : (text : List ℕ) → length (gcmText key iv text) ≡ length text
   unfolding gcmText gctr
@@ -103,15 +105,16 @@ module _ (key iv : List ℕ) where
       ∙ xors-twice text (ks (length text))
 
 -- The tag, as counter mode makes it of the hash.
-pub tag-stream : (w iv aad c : List ℕ) {h s x : ℕ} {b m : List ℕ} → h ≡ subkey w → s ≡ ghash h (hashInput aad c) → b ≡ bigEndian 16 s
-    → x ≡ number iv * 2 ^ 32 + 1 → m ≡ xors b (stream w x 0 (length b)) → m ≡ tagUnder w iv aad c
+pub tag-over : (keys : RoundKeys) (iv aad c : List ℕ) {h s x : ℕ} {b m : List ℕ} → h ≡ subkey (keys .schedule) → s ≡ ghash h (hashInput aad c)
+    → b ≡ bigEndian 16 s → x ≡ number iv * 2 ^ 32 + 1 → m ≡ ctrOver keys x 0 b → m ≡ tagUnder (keys .schedule) iv aad c
 unfolding tagUnder
-tag-stream w iv aad c {x = x} eh es eb ex em =
+tag-over keys iv aad c {x = x} eh es eb ex em =
+    let w = keys .schedule in
     let t : List ℕ = bigEndian 16 (ghash (subkey w) (hashInput aad c)) in
     let n : length t ≡ 16 = bigEndian-length 16 (ghash (subkey w) (hashInput aad c)) in
     em
-    ∙ ap (λ (z : List ℕ). xors z (stream w x 0 (length z))) (eb ∙ ap (bigEndian 16) (es ∙ ap (λ (z : ℕ). ghash z (hashInput aad c)) eh))
-    ∙ gctr-stream w (number iv) 1 t (omega arith) ex (J0-number iv)
+    ∙ ap (ctrOver keys x 0) (eb ∙ ap (bigEndian 16) (es ∙ ap (λ (z : ℕ). ghash z (hashInput aad c)) eh))
+    ∙ gctr-over keys (number iv) 1 t (omega arith) ex (J0-number iv)
 
 pub tagUnder-length : (w iv aad c : List ℕ) → length (tagUnder w iv aad c) ≡ 16
 unfolding tagUnder gctr

@@ -14,16 +14,17 @@ ghost use Rattle.refusals.specs.Numbers.{answerNumber, unlessRefused};
 ghost use Rattle.gcm.specs.Gcm.{subkey, hashInput, tagUnder, gcmTag, gcmText, same, gcmOpen};
 ghost use Rattle.gcm.specs.Call.{gcmRefusal, sealRefusal, openRefusal, openedOver};
 ghost use Rattle.gcm.specs.Theorems.{GcmLaws};
+use aes::RoundKeys;
 use block::Block;
 use refusals::Answer;
 use refusals::Refusal;
 
 // The hash subkey H (7.1, step 1).
-fn hash_subkey(t: &[u8; 256], w: &[u8; 240]) -> Block
+fn hash_subkey(t: &[u8; 256], keys: RoundKeys) -> Block
     requires { ⌜ IsSbox (now t) ⌝ }
-    ensures { λ r. ⌜ blockNumber r ≡ subkey (now (w .entry)) ⌝ }
+    ensures { λ r. ⌜ blockNumber r ≡ subkey (keys .schedule) ⌝ }
 {
-    let b = ctr::output_block(t, w, Block { hi: 0, lo: 0 }, 0);
+    let b = ctr::output_block(t, keys, Block { hi: 0, lo: 0 }, 0);
     block::load_block(&b, 0)
 }
 
@@ -58,18 +59,18 @@ fn hash(h: Block, aad: &[u8], c: &[u8]) -> Block
 }
 
 // The tag of associated data and ciphertext (7.1, steps 5 and 6).
-fn tag_of(t: &[u8; 256], w: &[u8; 240], iv: &[u8], aad: &[u8], c: &[u8]) -> [u8; 16]
+fn tag_of(t: &[u8; 256], keys: RoundKeys, iv: &[u8], aad: &[u8], c: &[u8]) -> [u8; 16]
     requires { ⌜ IsSbox (now t) ⌝ }
     requires { ⌜ length (now iv) ≡ 12 ⌝ }
     requires { ⌜ length (now aad) ≤ 4096 ⌝ }
     requires { ⌜ length (now c) ≤ 4096 ⌝ }
-    ensures { λ r. ⌜ r ≡ tagUnder (now (w .entry)) (now (iv .entry)) (now (aad .entry)) (now (c .entry)) ⌝ }
+    ensures { λ r. ⌜ r ≡ tagUnder (keys .schedule) (now (iv .entry)) (now (aad .entry)) (now (c .entry)) ⌝ }
 {
-    let h = hash_subkey(t, w);
+    let h = hash_subkey(t, keys);
     let s = block::block_bytes(hash(h, aad, c));
     let j0 = counter_block(iv, 1);
     let mut tag = [0u8; 16];
-    ctr::apply_keystream(t, w, j0, 0, &s, &mut tag);
+    ctr::apply_keystream(t, keys, j0, 0, &s, &mut tag);
     tag
 }
 
@@ -100,10 +101,10 @@ pub fn seal_into(key: &[u8], iv: &[u8], aad: &[u8], text: &[u8], out: &mut [u8],
         (gcmText (now (key .entry)) (now (iv .entry)) (now (text .entry))) ⌝ }
 {
     let t = field::sbox_table();
-    let w = aes::key_expansion(&t, key);
+    let keys = aes::round_keys(&t, key);
     let c = counter_block(iv, 2);
-    ctr::apply_keystream(&t, &w, c, 0, text, out);
-    let m = tag_of(&t, &w, iv, aad, out);
+    ctr::apply_keystream(&t, keys, c, 0, text, out);
+    let m = tag_of(&t, keys, iv, aad, out);
     block::copy(tag, &m);
 }
 
@@ -120,11 +121,11 @@ pub fn open_into(key: &[u8], iv: &[u8], aad: &[u8], text: &[u8], tag: &[u8], out
         (now (tag .entry))) (now (out .entry)) ⌝ }
 {
     let t = field::sbox_table();
-    let w = aes::key_expansion(&t, key);
-    let m = tag_of(&t, &w, iv, aad, text);
+    let keys = aes::round_keys(&t, key);
+    let m = tag_of(&t, keys, iv, aad, text);
     if same_tag(&m, tag) {
         let c = counter_block(iv, 2);
-        ctr::apply_keystream(&t, &w, c, 0, text, out);
+        ctr::apply_keystream(&t, keys, c, 0, text, out);
         return true;
     }
     false

@@ -2,7 +2,7 @@
 use mathlib.Core.Path.{_∙_, ap, ap₂}
 use borrow.Author.Needs.{needs}
 use borrow.Author.Tests.{eq-eqb, ne-eqb}
-use Rattle.aes.specs.State.{subWord, addWord}
+use Rattle.rounds.specs.State.{subWord, addWord}
 use Rattle.aes.proofs.changed_word.Statement.{statement}
 use Rattle.aes.proofs.changed_word.Tie as tie
 

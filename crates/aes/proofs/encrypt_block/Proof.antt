@@ -1,7 +1,7 @@
 -- `aes::encrypt_block` meets its contract: the state of the block, its cipher and its bytes. Assumes nothing.
 use mathlib.Core.Path.{_∙_, ap}
 use borrow.Author.Needs.{needs}
-use Rattle.aes.specs.State.{bytesOf}
+use Rattle.rounds.specs.State.{bytesOf}
 use Rattle.aes.specs.Cipher.{cipherState, cipher}
 use Rattle.aes.proofs.encrypt_block.Statement.{statement}
 use Rattle.aes.proofs.encrypt_block.Tie as tie
@@ -9,9 +9,10 @@ use Rattle.aes.proofs.encrypt_block.Tie as tie
 returns : tie.Need-returns
 unfolding cipher
 returns c =
-    let p = c .before .before in
+    let enciphered = c .before in
+    let stated = enciphered .before .before .before in
     c .bytes-of .ensures
-    ∙ ap bytesOf (c .before .cipher-state .ensures ∙ ap (cipherState (p .before .args .w .now)) (p .state-of .ensures))
+    ∙ ap bytesOf (enciphered .cipher-state .ensures ∙ ap (cipherState _) (stated .state-of .ensures))
 
 pub encrypt-block-spec : {M : Type 1} → statement M
 encrypt-block-spec =

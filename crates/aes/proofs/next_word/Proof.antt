@@ -1,7 +1,7 @@
 -- `aes::next_word` meets its contract: the definition's sum of two earlier words. Assumes nothing.
 use mathlib.Core.Path.{_∙_, ap, ap₂}
 use borrow.Author.Needs.{needs}
-use Rattle.aes.specs.State.{addWord}
+use Rattle.rounds.specs.State.{addWord}
 use Rattle.aes.specs.KeyExpansion.{changedWord, nextWord}
 use Rattle.aes.proofs.next_word.Statement.{statement}
 use Rattle.aes.proofs.next_word.Tie as tie

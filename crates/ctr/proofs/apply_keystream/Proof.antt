@@ -5,25 +5,25 @@ use native.Mathlib.Omega.{arith}
 use borrow.Author.Needs.{needs}
 use lib.ListN.{length, take, length-set}
 use Rattle.block.specs.Number.{blockNumber}
-use Rattle.ctr.specs.CounterMode.{outputBlock, stream, xors}
+use Rattle.ctr.specs.CounterMode.{outputBlock, stream, xors, ctrOver}
 use Rattle.ctr.proofs.Xors.{xors-length}
 use Rattle.ctr.proofs.Stream.{stream-turn, take-whole}
 use Rattle.ctr.proofs.apply_keystream.Statement.{statement}
 use Rattle.ctr.proofs.apply_keystream.Tie as tie
 
 abbrev Inv-loop2 : tie.InvT-loop2
-Inv-loop2 t w iv n text out₀ i₀ s end out i =
-    (i₀ ≤ i) × (i ≤ end) × (length out ≡ length text) × (take i out ≡ take i (xors text (stream w (blockNumber iv) n (length text))))
+Inv-loop2 t keys iv n text out₀ i₀ s end out i =
+    (i₀ ≤ i) × (i ≤ end) × (length out ≡ length text) × (take i out ≡ take i (xors text (stream (keys .schedule) (blockNumber iv) n (length text))))
 
 abbrev μ-loop2 : tie.MeasureT-loop2
-μ-loop2 t w iv n text out₀ i₀ s end out i = end - i
+μ-loop2 t keys iv n text out₀ i₀ s end out i = end - i
 
 abbrev Inv-loop : tie.InvT-loop
-Inv-loop t w iv n text out₀ i₀ out i =
-    (i ≤ length text) × (length out ≡ length text) × (take i out ≡ take i (xors text (stream w (blockNumber iv) n (length text))))
+Inv-loop t keys iv n text out₀ i₀ out i =
+    (i ≤ length text) × (length out ≡ length text) × (take i out ≡ take i (xors text (stream (keys .schedule) (blockNumber iv) n (length text))))
 
 abbrev μ-loop : tie.MeasureT-loop
-μ-loop t w iv n text out₀ i₀ out i = length text - i
+μ-loop t keys iv n text out₀ i₀ out i = length text - i
 
 loop-holds : tie.Need-loop-holds Inv-loop2 μ-loop2 Inv-loop μ-loop
 loop-holds c = (omega arith, search needs, refl)
@@ -44,19 +44,20 @@ loop2-again c =
     let outer = output .before .before .loop in
     let a = output .before .before .before .before .before .args in
     let e : (a .n + outer .i) / 16 ≡ (a .n + l .i) / 16 = omega (arith, ended .block-end .ensures) in
-    let block = output .output-block .ensures ∙ ap (λ (k : ℕ). outputBlock (a .w .now) (blockNumber (a .iv) + k)) e in (
+    let block = output .output-block .ensures ∙ ap (λ (k : ℕ). outputBlock (a .keys .schedule) (blockNumber (a .iv) + k)) e in (
       omega arith,
       omega arith,
       length-set (l .out) (l .i) _ ∙ l .inv .2,
-      stream-turn (a .w .now) (blockNumber (a .iv)) (a .n) (l .i) (a .text .now) (l .out) (output .output-block .result)
+      stream-turn (a .keys .schedule) (blockNumber (a .iv)) (a .n) (l .i) (a .text .now) (l .out) (output .output-block .result)
           (omega (arith, ended .block-end .ensures)) (l .inv .2) block (l .inv .3),
     )
 
 returns : tie.Need-returns Inv-loop2 μ-loop2 Inv-loop μ-loop
+unfolding ctrOver
 returns c =
     let l = c .before .loop in
     let a = c .before .before .before .before .args in
-    let sum = xors (a .text .now) (stream (a .w .now) (blockNumber (a .iv)) (a .n) (length (a .text .now))) in
+    let sum = xors (a .text .now) (stream (a .keys .schedule) (blockNumber (a .iv)) (a .n) (length (a .text .now))) in
     take-whole (l .out) sum (l .i) (omega arith) (simp xors-length (omega arith)) (l .inv .2)
 
 pub apply-keystream-spec : {M : Type 1} → statement M

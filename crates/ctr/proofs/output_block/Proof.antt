@@ -11,7 +11,7 @@ returns : tie.Need-returns
 returns c =
     let a = c .before .before .before .args in
     c .encrypt-block .ensures
-    ∙ output-low (a .w .now) (blockNumber (a .iv) + a .n) (c .before .block-bytes .ensures) (c .before .before .add .ensures)
+    ∙ output-low (a .keys .schedule) (blockNumber (a .iv) + a .n) (c .before .block-bytes .ensures) (c .before .before .add .ensures)
 
 pub output-block-spec : {M : Type 1} → statement M
 output-block-spec = tie.close (tie.spec (λ c κs. search needs) (λ c κs. search needs) (λ c κs. search needs) returns)

@@ -5,14 +5,14 @@ use Prim.Native.Nat.{ℕ}
 use native.Mathlib.Omega.{arith}
 use borrow.Author.Needs.{needs}
 use Rattle.gcm.specs.Gcm.{gcmTag, same}
-use Rattle.gcm.proofs.Gctr.{text-stream, tag-key}
+use Rattle.gcm.proofs.Gctr.{text-over, tag-key}
 use Rattle.gcm.proofs.Same.{open-test}
 use Rattle.gcm.proofs.open_into.Statement.{statement}
 use Rattle.gcm.proofs.open_into.Tie as tie
 
 -- ---- places of the code, and what is known there
 
-module _ (c : tie.After-key-expansion) where
+module _ (c : tie.After-round-keys) where
   abbrev tabled : tie.After-sbox-table
   tabled = c .before .before
 
@@ -23,8 +23,8 @@ module _ (c : tie.After-same-tag) where
   abbrev tagged : tie.After-tag-of
   tagged = c .before .before
 
-  abbrev expanded : tie.After-key-expansion
-  expanded = tagged .before .before .before
+  abbrev expanded : tie.After-round-keys
+  expanded = tagged .before .before
 
   -- Whether the tag is the right one.
   right : let a = start expanded .args in
@@ -33,13 +33,13 @@ module _ (c : tie.After-same-tag) where
       let a = start expanded .args in
       c .same-tag .ensures
       ∙ ap (λ (m : List ℕ). same m (a .tag .now))
-      (tag-key (a .key .now) (a .iv .now) (a .aad .now) (a .text .now) (expanded .key-expansion .ensures) (tagged .tag-of .ensures))
+      (tag-key (a .key .now) (a .iv .now) (a .aad .now) (a .text .now) (expanded .round-keys .ensures) (tagged .tag-of .ensures))
 
 -- ---- the needs
 
 apply-keystream-requires : tie.Need-apply-keystream-requires
 apply-keystream-requires c κs =
-    let counter = c .before .before .before in
+    let counter = c .before .before in
     let expansion = expanded (counter .before .before) in
     let pre = start expansion .pre in
     (tabled expansion .sbox-table .ensures, (pre .1 .1 .1 .1 .1, omega (arith, pre .1 .1 .1 .0)))
@@ -47,12 +47,12 @@ apply-keystream-requires c κs =
 returns : tie.Need-returns
 returns c =
     let enciphered = c .before .before in
-    let counter = enciphered .before .before .before .before in
+    let counter = enciphered .before .before .before in
     let tested = counter .before .before in
     let s = start (expanded tested) in
     let a = s .args in
     let text =
-    text-stream (a .key .now) (a .iv .now) (a .text .now) (expanded tested .key-expansion .ensures) (counter .counter-block .ensures)
+    text-over (a .key .now) (a .iv .now) (a .text .now) (expanded tested .round-keys .ensures) (counter .counter-block .ensures)
     (s .pre .1 .1 .1 .0) (enciphered .apply-keystream .ensures) in
     let taken = counter .before .if1 .taken in
     (sym taken ∙ right tested, rw (open-test (a .key .now) (a .iv .now) (a .aad .now) (a .text .now) (a .tag .now) (right tested) taken) text)

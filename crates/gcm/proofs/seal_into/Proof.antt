@@ -1,9 +1,9 @@
 -- `gcm::seal_into` meets its contract. Assumes nothing.
 use mathlib.Core.Path.{ap, _∙_}
 use borrow.Author.Needs.{needs}
-use Rattle.ctr.proofs.Xors.{xors-length}
+use Rattle.ctr.proofs.Counter.{over-length}
 use Rattle.gcm.specs.Gcm.{gcmTag}
-use Rattle.gcm.proofs.Gctr.{text-stream, tagUnder-length, tag-key}
+use Rattle.gcm.proofs.Gctr.{text-over, tagUnder-length, tag-key}
 use Rattle.gcm.proofs.seal_into.Statement.{statement}
 use Rattle.gcm.proofs.seal_into.Tie as tie
 
@@ -11,7 +11,7 @@ use Rattle.gcm.proofs.seal_into.Tie as tie
 
 module _ (c : tie.After-apply-keystream) where
   abbrev counter : tie.After-counter-block
-  counter = c .before .before .before .before
+  counter = c .before .before .before
 
   abbrev tabled : tie.After-sbox-table
   tabled = counter .before .before .before
@@ -23,28 +23,28 @@ module _ (c : tie.After-apply-keystream) where
 
 tag-of-requires : tie.Need-tag-of-requires
 tag-of-requires c κs =
-    let enciphered = c .before .before .before .before .before in
+    let enciphered = c .before .before .before .before in
     let pre = start enciphered .pre in (
       tabled enciphered .sbox-table .ensures,
-      (pre .1 .0, (pre .1 .1 .0, rw (enciphered .apply-keystream .ensures, xors-length) (pre .1 .1 .1 .0))),
+      (pre .1 .0, (pre .1 .1 .0, rw (enciphered .apply-keystream .ensures, over-length) (pre .1 .1 .1 .0))),
     )
 
 copy-requires : tie.Need-copy-requires
 copy-requires c κs =
     let tagged = c .before .before in
-    let enciphered = tagged .before .before .before .before .before .before in
+    let enciphered = tagged .before .before .before .before .before in
     rw (tagged .tag-of .ensures, tagUnder-length) (start enciphered .pre .1 .1 .1 .1 .1)
 
 returns : tie.Need-returns
 returns c =
     let copied = c .before .before in
     let tagged = copied .before .before .before in
-    let enciphered = tagged .before .before .before .before .before .before in
+    let enciphered = tagged .before .before .before .before .before in
     let s = start enciphered in
     let a = s .args in
-    let w = counter enciphered .before .key-expansion .ensures in
+    let w = counter enciphered .before .round-keys .ensures in
     let text =
-    text-stream (a .key .now) (a .iv .now) (a .text .now) w (counter enciphered .counter-block .ensures) (s .pre .1 .1 .1 .0)
+    text-over (a .key .now) (a .iv .now) (a .text .now) w (counter enciphered .counter-block .ensures) (s .pre .1 .1 .1 .0)
     (enciphered .apply-keystream .ensures) in (
       text,
       copied .copy .ensures ∙ tag-key (a .key .now) (a .iv .now) (a .aad .now) _ w (tagged .tag-of .ensures)

@@ -1,6 +1,6 @@
 -- `gcm::tag_of` meets its contract. Assumes nothing.
 use borrow.Author.Needs.{needs}
-use Rattle.gcm.proofs.Gctr.{tag-stream}
+use Rattle.gcm.proofs.Gctr.{tag-over}
 use Rattle.gcm.proofs.tag_of.Statement.{statement}
 use Rattle.gcm.proofs.tag_of.Tie as tie
 
@@ -10,7 +10,7 @@ returns c =
     let hashed = counter .before .before in
     let subkeyed = hashed .before in
     let a = subkeyed .before .before .before .before .args in
-    tag-stream (a .w .now) (a .iv .now) (a .aad .now) (a .c .now) (subkeyed .hash-subkey .ensures) (hashed .hash .ensures)
+    tag-over (a .keys) (a .iv .now) (a .aad .now) (a .c .now) (subkeyed .hash-subkey .ensures) (hashed .hash .ensures)
     (counter .before .block-bytes .ensures)
     (counter .counter-block .ensures)
     (c .before .apply-keystream .ensures)

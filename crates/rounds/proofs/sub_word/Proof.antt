@@ -1,8 +1,8 @@
--- `aes::sub_word` meets its contract, byte by byte. Assumes nothing.
+-- `rounds::sub_word` meets its contract, byte by byte. Assumes nothing.
 use borrow.Author.Needs.{needs}
-use Rattle.aes.proofs.Words.{four-equal}
-use Rattle.aes.proofs.sub_word.Statement.{statement}
-use Rattle.aes.proofs.sub_word.Tie as tie
+use Rattle.rounds.proofs.Words.{four-equal}
+use Rattle.rounds.proofs.sub_word.Statement.{statement}
+use Rattle.rounds.proofs.sub_word.Tie as tie
 
 returns : tie.Need-returns
 returns c =

@@ -1,12 +1,12 @@
--- `aes::last_round` meets its contract: its three steps, one on the other. Assumes nothing.
+-- `rounds::last_round` meets its contract: its three steps, one on the other. Assumes nothing.
 use mathlib.Core.Path.{_∙_, ap}
 use mathlib.Core.List.{List}
 use Prim.Native.Nat.{ℕ}
 use borrow.Author.Needs.{needs}
-use Rattle.aes.specs.State.{shiftRows, addRoundKey}
-use Rattle.aes.specs.Cipher.{lastRound}
-use Rattle.aes.proofs.last_round.Statement.{statement}
-use Rattle.aes.proofs.last_round.Tie as tie
+use Rattle.rounds.specs.State.{shiftRows, addRoundKey}
+use Rattle.rounds.specs.Round.{lastRound}
+use Rattle.rounds.proofs.last_round.Statement.{statement}
+use Rattle.rounds.proofs.last_round.Tie as tie
 
 returns : tie.Need-returns
 unfolding lastRound

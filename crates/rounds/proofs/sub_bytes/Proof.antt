@@ -1,8 +1,8 @@
--- `aes::sub_bytes` meets its contract, column by column. Assumes nothing.
+-- `rounds::sub_bytes` meets its contract, column by column. Assumes nothing.
 use borrow.Author.Needs.{needs}
-use Rattle.aes.proofs.Words.{four-equal}
-use Rattle.aes.proofs.sub_bytes.Statement.{statement}
-use Rattle.aes.proofs.sub_bytes.Tie as tie
+use Rattle.rounds.proofs.Words.{four-equal}
+use Rattle.rounds.proofs.sub_bytes.Statement.{statement}
+use Rattle.rounds.proofs.sub_bytes.Tie as tie
 
 returns : tie.Need-returns
 returns c =

@@ -1,12 +1,12 @@
--- `aes::round` meets its contract: its four steps, one on the other. Assumes nothing.
+-- `bench_bare::round` meets its contract: its four steps, one on the other. Assumes nothing.
 use mathlib.Core.Path.{_∙_, ap}
 use mathlib.Core.List.{List}
 use Prim.Native.Nat.{ℕ}
 use borrow.Author.Needs.{needs}
-use Rattle.aes.specs.State.{shiftRows, mixColumns, addRoundKey}
-use Rattle.aes.specs.Cipher.{roundOf}
-use Rattle.aes.proofs.round.Statement.{statement}
-use Rattle.aes.proofs.round.Tie as tie
+use Rattle.rounds.specs.State.{shiftRows, mixColumns, addRoundKey}
+use Rattle.rounds.specs.Round.{roundOf}
+use Rattle.bench_bare.proofs.round.Statement.{statement}
+use Rattle.bench_bare.proofs.round.Tie as tie
 
 returns : tie.Need-returns
 unfolding roundOf

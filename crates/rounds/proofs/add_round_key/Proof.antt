@@ -1,8 +1,8 @@
--- `aes::add_round_key` meets its contract, column by column. Assumes nothing.
+-- `rounds::add_round_key` meets its contract, column by column. Assumes nothing.
 use borrow.Author.Needs.{needs}
-use Rattle.aes.proofs.Words.{four-equal}
-use Rattle.aes.proofs.add_round_key.Statement.{statement}
-use Rattle.aes.proofs.add_round_key.Tie as tie
+use Rattle.rounds.proofs.Words.{four-equal}
+use Rattle.rounds.proofs.add_round_key.Statement.{statement}
+use Rattle.rounds.proofs.add_round_key.Tie as tie
 
 returns : tie.Need-returns
 returns c =
