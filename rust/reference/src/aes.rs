@@ -89,6 +89,11 @@ impl RoundKeys {
         RoundKeys(words)
     }
 
+    /// The words of the schedule, w[0] to w[59].
+    pub fn words(&self) -> &[[u8; 4]; SCHEDULE_WORDS] {
+        &self.0
+    }
+
     /// The cipher (section 5.1). The state is column by column: byte `r + 4 * c` is in row `r` and
     /// column `c`.
     pub fn encrypt(&self, block: [u8; BLOCK]) -> [u8; BLOCK] {

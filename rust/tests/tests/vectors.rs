@@ -4,6 +4,7 @@
 use std::collections::BTreeMap;
 
 use hiwalgam::Refusal::{TagDiffers, WrongLength};
+use hiwalgam_reference::aes::RoundKeys;
 use hiwalgam_reference::gcm;
 use hiwalgam_tests::adapters::{CFunctions, Reference, Wrapper};
 use hiwalgam_tests::inputs::report;
@@ -229,4 +230,23 @@ fn every_published_case() {
         "published cases run through every implementation: {kinds}{all} in all"
     ));
     assert_eq!(ran, BTreeMap::from(EXPECTED));
+}
+
+/// The key expansion of FIPS 197, appendix A.3, of the reference alone: the library hands no round keys
+/// out, and no other vector shows them.
+#[test]
+fn key_expansion() {
+    let key = bytes("603deb1015ca71be2b73aef0857d77811f352c073b6108d72d9810a30914dff4");
+    let keys = RoundKeys::new(key[..].try_into().unwrap());
+    let words = keys.words().map(u32::from_be_bytes);
+    // Two words by the rule for i mod 8 = 0, one by the plain rule, one by that for 4, and the last.
+    for (i, published) in [
+        (8, 0x9ba35411),
+        (16, 0xd59aecb8),
+        (9, 0x8e6925af),
+        (20, 0xb5a9328a),
+        (59, 0x706c631e),
+    ] {
+        assert_eq!(words[i], published, "w[{i}]");
+    }
 }

@@ -124,7 +124,8 @@ fn start_mut<T>(elements: &mut [T]) -> *mut T {
     }
 }
 
-fn answer(number: u8) -> Answer {
+/// What a C function answered by its number.
+pub fn answer(number: u8) -> Answer {
     match number {
         0 => SERVED,
         _ => Err(Refusal::from_number(number).unwrap_or_else(|| panic!("answer {number}"))),
