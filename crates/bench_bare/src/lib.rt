@@ -3,7 +3,7 @@
 // The key schedule is a bare array of 240 bytes, lent from function to function, and a byte of MIXCOLUMNS takes two products.
 // It is proved like the rest, so that the benchmark compares two forms of one definition.
 ghost use mathlib.Core.Path.{_≡_};
-ghost use Prim.Native.Nat.{_+_, _^_, _<_};
+ghost use Prim.Native.Nat.{_+_, _*_, _/_, _^_, _<_, _≤_};
 ghost use lib.ListN.{length};
 ghost use Rattle.block.specs.Number.{blockNumber};
 ghost use Rattle.field.specs.Sbox.{IsSbox};
@@ -112,6 +112,18 @@ fn output_block(t: &[u8; 256], w: &[u8; 240], iv: Block, n: usize) -> [u8; 16]
     encrypt_block(t, w, counter)
 }
 
+// The end of the bytes of a text of len bytes that stand in one block with byte i, the text beginning at byte n.
+fn block_end(n: usize, i: usize, len: usize) -> usize
+    requires { ⌜ (i < len) × (n + len < 2 ^ 63) ⌝ }
+    ensures { λ r. ⌜ (i < r) × (r ≤ len) × (n + r ≤ (n + i) / 16 * 16 + 16) ⌝ }
+{
+    let end = i + (16 - (n + i) % 16);
+    if end > len {
+        return len;
+    }
+    end
+}
+
 // The sum of a text and the stream from byte n on, under a schedule.
 fn apply_keystream(t: &[u8; 256], w: &[u8; 240], iv: Block, n: usize, text: &[u8], out: &mut [u8])
     requires { ⌜ IsSbox (now t) ⌝ }
@@ -122,7 +134,7 @@ fn apply_keystream(t: &[u8; 256], w: &[u8; 240], iv: Block, n: usize, text: &[u8
     let mut i = 0;
     while i < text.len() {
         let s = output_block(t, w, iv, (n + i) / 16);
-        let end = ctr::block_end(n, i, text.len());
+        let end = block_end(n, i, text.len());
         while i < end {
             let r = (n + i) % 16;
             out[i] = text[i] ^ s[r];

@@ -27,7 +27,7 @@ pub fn output_block(t: &[u8; 256], keys: RoundKeys, iv: Block, n: usize) -> [u8;
 }
 
 // The end of the bytes of a text of len bytes that stand in one block with byte i, the text beginning at byte n.
-pub fn block_end(n: usize, i: usize, len: usize) -> usize
+fn block_end(n: usize, i: usize, len: usize) -> usize
     requires { ⌜ (i < len) × (n + len < 2 ^ 63) ⌝ }
     ensures { λ r. ⌜ (i < r) × (r ≤ len) × (n + r ≤ (n + i) / 16 * 16 + 16) ⌝ }
 {
