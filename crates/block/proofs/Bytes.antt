@@ -3,7 +3,7 @@ use mathlib.Core.Path.{_≡_, refl, sym, ap, ap₂, _∙_, subst}
 use mathlib.Core.List.{List, [], _∷_, _++_}
 use Prim.Native.Nat.{ℕ, zero, suc, _+_, _*_, _/_, _%_, _^_, _<_}
 use native.Mathlib.Nat.{zero-add, add-zero, suc-add, add-assoc, add-comm, add-mul, mul-assoc, mul-comm, mul-one, one-le-pow, pow-succ'}
-use native.Mathlib.Nat.{zero-lt-suc, add-mul-div-right, mul-add-mod-self-right, div-div-eq-div-mul, mod-eq-of-lt, mod-one}
+use native.Mathlib.Nat.{zero-lt-suc, add-mul-div-right, mul-add-mod-self-right, div-div-eq-div-mul, mod-eq-of-lt, mod-one, div-add-mod'}
 use native.Mathlib.Omega.{arith}
 use lib.Arith.{digits-lt, digits-div, mod-mul}
 use lib.Pow.{pow-add}
@@ -60,6 +60,11 @@ bigEndian-high (suc n) h x =
     ∙ ap (λ (t : ℕ). t % 256) (add-mul-div-right x (h * 256) (one-le-pow n 256 (zero-lt-suc 255)) ∙ add-comm (x / 256 ^ n) (h * 256))
     ∙ mul-add-mod-self-right h 256 (x / 256 ^ n))
     (ap (bigEndian n) e ∙ bigEndian-high n (h * 256) x)
+
+-- The n bytes of a number are those of its lowest n bytes.
+pub bigEndian-low : (n x : ℕ) → bigEndian n (x % 256 ^ n) ≡ bigEndian n x
+bigEndian-low n x =
+    sym (ap (bigEndian n) (sym (div-add-mod' x (256 ^ n))) ∙ bigEndian-high n (x / 256 ^ n) (x % 256 ^ n))
 
 -- The bytes of a high part, then the n bytes of a low one.
 pub bigEndian-++ : (m n h x : ℕ) → x < 256 ^ n → bigEndian (m + n) (h * 256 ^ n + x) ≡ bigEndian m h ++ bigEndian n x

@@ -2,13 +2,12 @@
 use Prim.Native.Nat.{ℕ, _+_, _/_, _%_, _^_, _<_}
 use mathlib.Core.Path.{_≡_, refl, sym, ap, ap₂, _∙_}
 use mathlib.Core.List.{List}
-use native.Mathlib.Nat.{zero-add, add-zero, add-assoc, mod-add-mod, mod-lt, div-add-mod'}
+use native.Mathlib.Nat.{zero-add, add-zero, add-assoc, mod-add-mod}
 use native.Mathlib.Omega.{arith}
 use lib.ListN.{length, getD, replicate}
 use lib.Seq.{take-all}
-use lib.Pow.{pow-pos}
 use Rattle.block.specs.Bytes.{number, numberAfter, bigEndian, window}
-use Rattle.block.proofs.Bytes.{number-bigEndian, bigEndian-number, bigEndian-++}
+use Rattle.block.proofs.Bytes.{number-bigEndian, bigEndian-number, bigEndian-low}
 use Rattle.block.proofs.Window.{window-part}
 use Rattle.aes.specs.KeyExpansion.{keyExpansion}
 use Rattle.aes.specs.Cipher.{cipher}
@@ -16,22 +15,14 @@ use Rattle.aes.specs.declared.RoundKeys.{RoundKeys}
 use Rattle.ctr.proofs.Xors.{xors-length}
 use Rattle.ctr.specs.CounterMode.{increment, counterAt, outputBlock, streamByte, keystreamByte, keystream, stream, xors, ctrFrom, ctr, ctrOver}
 
--- The bytes of a number are those of its low 128 bits.
-bigEndian-low : (x : ℕ) → bigEndian 16 (x % 2 ^ 128) ≡ bigEndian 16 x
-unfolding bigEndian
-bigEndian-low x =
-    let q : ℕ = x / 2 ^ 128 in
-    let low = bigEndian-++ 0 16 q (x % 2 ^ 128) (mod-lt x (pow-pos 128)) in
-    sym (ap (bigEndian 16) (sym (div-add-mod' x (2 ^ 128))) ∙ low)
-
 pub counter-next : (iv : List ℕ) (n : ℕ) → counterAt iv (n + 1) ≡ increment (counterAt iv n)
 unfolding counterAt increment
 counter-next iv n =
     let y : ℕ = number iv + n in
     ap (bigEndian 16) (sym (add-assoc (number iv) n 1))
-    ∙ sym (bigEndian-low (y + 1))
+    ∙ sym (bigEndian-low 16 (y + 1))
     ∙ ap (bigEndian 16) (sym (mod-add-mod y (2 ^ 128) 1))
-    ∙ bigEndian-low (y % 2 ^ 128 + 1)
+    ∙ bigEndian-low 16 (y % 2 ^ 128 + 1)
     ∙ ap (λ (t : ℕ). bigEndian 16 (t + 1)) (sym (number-bigEndian 0 16 y ∙ zero-add (y % 2 ^ 128)))
 
 pub counter-first : (iv : List ℕ) → length iv ≡ 16 → ((i : ℕ) → i < 16 → getD iv i 0 < 256) → counterAt iv 0 ≡ iv
@@ -49,7 +40,7 @@ keystream-byte key iv n = refl
 -- The cipher of a counter block, from the bytes of the number modulo 2^128.
 pub output-low : (w : List ℕ) (x : ℕ) {b : List ℕ} {y : ℕ} → b ≡ bigEndian 16 y → y ≡ x % 2 ^ 128 → cipher w b ≡ outputBlock w x
 unfolding outputBlock
-output-low w x eb ey = ap (cipher w) (eb ∙ ap (bigEndian 16) ey ∙ bigEndian-low x)
+output-low w x eb ey = ap (cipher w) (eb ∙ ap (bigEndian 16) ey ∙ bigEndian-low 16 x)
 
 -- The number of an IV that was loaded as a block.
 pub number-iv : (iv : List ℕ) → length iv ≡ 16 → number (window iv 0 16) ≡ number iv

@@ -2,3 +2,4 @@ pub mod Xors
 pub mod Stream
 pub mod Counter
 pub mod Refusals
+pub mod Chunks

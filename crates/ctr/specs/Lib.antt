@@ -1,3 +1,4 @@
 pub mod CounterMode
 pub mod Call
+pub mod Chunks
 pub mod Theorems

@@ -194,11 +194,8 @@ pub fn put_number(buf: &mut [u8], at: usize, n: usize)
     requires { ⌜ at + 4 ≤ length (now buf) ⌝ }
     ensures { λ r. ⌜ now (buf .exit) ≡ overlay (now (buf .entry)) at (fourBytes n) ⌝ }
 {
-    let d = [
-        (n / 16777216 % 256) as u8,
-        (n / 65536 % 256) as u8,
-        (n / 256 % 256) as u8,
-        (n % 256) as u8,
-    ];
-    store(buf, at, &d);
+    buf[at] = (n / 16777216 % 256) as u8;
+    buf[at + 1] = (n / 65536 % 256) as u8;
+    buf[at + 2] = (n / 256 % 256) as u8;
+    buf[at + 3] = (n % 256) as u8;
 }

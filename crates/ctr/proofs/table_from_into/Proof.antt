@@ -1,9 +1,9 @@
--- `ctr::ctr_from_into` meets its contract. Assumes nothing.
+-- `ctr::table_from_into` meets its contract. Assumes nothing.
 use mathlib.Core.Path.{_∙_}
 use borrow.Author.Needs.{needs}
 use Rattle.ctr.proofs.Counter.{over-loaded}
-use Rattle.ctr.proofs.ctr_from_into.Statement.{statement}
-use Rattle.ctr.proofs.ctr_from_into.Tie as tie
+use Rattle.ctr.proofs.table_from_into.Statement.{statement}
+use Rattle.ctr.proofs.table_from_into.Tie as tie
 
 returns : tie.Need-returns
 returns c =
@@ -16,7 +16,7 @@ returns c =
     ∙ over-loaded _ (a .key .now) (a .iv .now) (a .n) (a .text .now) (expanded .round-keys .ensures) (loaded .load-block .ensures)
     (start .pre .1 .0)
 
-pub ctr-from-into-spec : {M : Type 1} → statement M
-ctr-from-into-spec =
+pub table-from-into-spec : {M : Type 1} → statement M
+table-from-into-spec =
     tie.close
     (tie.spec (λ c κs. search needs) (λ c κs. search needs) (λ c κs. search needs) (λ c κs. search needs) (λ c. search needs) returns)

@@ -1,0 +1,4 @@
+pub mod Same
+pub mod Every
+pub mod Rows
+pub mod Laws
