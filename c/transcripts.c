@@ -1733,11 +1733,15 @@ static void case_block(struct bench *bench, const struct bytes *text, const stru
 
 /*
  * What counter_mode makes of a long text is what it makes of each block, and what keystream_at makes of each part. The
- * counter wraps at block 100.
+ * counter wraps at block 100. The library has one form for short texts and one for long, which takes 256 bytes to a lane:
+ * lengths lie around the limit between the two, and around the edges of a block and of a lane.
  */
 static void group_pieces(struct bench *bench)
 {
-    const size_t lengths[] = { 0, 1, 15, 16, 17, 31, 33, 256, 1000, 4079, 4080, 4081, 4095, 4096 };
+    const size_t lengths[] = {
+        0, 1, 15, 16, 17, 31, 33, 191, 192, 193, 239, 240, 241, 255, 256, 257, 271, 272, 273, 511, 512, 513, 1000,
+        3839, 3841, 4079, 4080, 4081, 4095, 4096
+    };
     const size_t positions[] = {
         47, 48, 49, 63, 64, 65, 255, 1023, 1024, 2047, 2049, 3096, 4079, 4080, 4081, 4095, 4096
     };

@@ -22,7 +22,7 @@
  *   position and session, and each write is handed the permutation of the opening. Tape bytes are random, and
  *   none is used twice.
  * - The platform is x86-64 Linux: 64-bit size_t, numbers with the least significant byte first. A call takes
- *   up to 16 KiB of stack.
+ *   up to 32 KiB of stack.
  *
  * Link with libhiwalgam.a, which needs nothing but memcpy and memset of the C library.
  */
@@ -258,6 +258,7 @@ uint8_t hiwalgam_close(uint8_t *device, size_t device_length,
 
 /*
  * AES-256 in counter mode (SP 800-38A): key 32 bytes, IV 16, text 0 to 4,096, out as long as the text.
+ * A text of fewer than 192 bytes goes by a table, and the time that it takes depends on key and text.
  * Refused by 3, 13.
  */
 uint8_t hiwalgam_counter_mode(const uint8_t *key, size_t key_length,

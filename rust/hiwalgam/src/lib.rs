@@ -45,8 +45,10 @@
 //!
 //! # What is not promised
 //!
-//! - **Time.** The ciphers are not constant time: how long a call takes, and which cache lines it
-//!   touches, depends on key and data.
+//! - **Time.** Nothing is proved of it. Counter mode of 192 bytes and more, and so every read, write and
+//!   close, has no look-up and no branch that depends on key or text, which is tested on the compiled
+//!   code. GCM, and so an opening and a formatting, and counter mode of shorter texts look into a table:
+//!   how long they take, and which cache lines they touch, depends on key and data.
 //! - **Authentic blocks.** Key cells and headers carry tags. Maps and data blocks do not: whoever
 //!   alters the device alters what is read from them.
 //! - **Random bytes.** The caller draws them, and uses none for two calls: two texts under one key
@@ -58,7 +60,7 @@
 //! - **Wiped memory.** A close sets the keys of its session to zeros. Copies that were made by moving
 //!   the session, and what a call leaves on the stack, stay.
 //!
-//! The platform is x86-64 Linux, and a call takes up to 16 KiB of stack.
+//! The platform is x86-64 Linux, and a call takes up to 32 KiB of stack.
 
 #![deny(missing_docs)]
 #![deny(unsafe_op_in_unsafe_fn)]

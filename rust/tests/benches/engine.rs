@@ -1,6 +1,6 @@
-//! The speed of the proved engine beside that of the reference, of its reads and rewrites beside its
-//! own counter mode alone, of its formatting beside a plain copy, and of claims that fill a stick beside
-//! the same slices stored without a search. Nothing here asserts a time.
+//! The speed of the proved engine beside that of the reference, of its reads, writes and closes beside
+//! its own counter mode alone, of its formatting beside a plain copy, and of claims that fill a stick
+//! beside the same slices stored without a search. Nothing here asserts a time.
 //!
 //! Each implementation is called in its own form, without the tests' interface, whose adapters copy
 //! the session.
@@ -18,6 +18,8 @@ use hiwalgam_tests::interface::{Target, UNMAPPED, VOLUMES};
 use hiwalgam_tests::stick::Stick;
 
 const B: usize = 4096;
+/// The other size of a block, for calls beside counter mode alone.
+const SMALL_B: usize = 1024;
 /// B and P of the stick that is filled; S is 1.
 const FILL_B: usize = 1024;
 const FILL_P: usize = 4096;
@@ -54,8 +56,8 @@ struct Bench {
 
 impl Bench {
     /// A stick with half of its slices mapped.
-    fn new(random: &mut Random, s: usize, p: usize) -> Self {
-        let stick = Stick::random(random, Geometry::new(B, s, p).unwrap(), VOLUMES, p / 2);
+    fn new(random: &mut Random, b: usize, s: usize, p: usize) -> Self {
+        let stick = Stick::random(random, Geometry::new(b, s, p).unwrap(), VOLUMES, p / 2);
         let mapped = stick.texts.keys().copied();
         let mapped = mapped.min_by_key(|target| (target.volume, target.address));
         let mut entries = stick.volumes[0].map.iter();
@@ -174,7 +176,7 @@ impl Session for Library {
     fn find(&mut self, bench: &mut Bench) {
         let (device, tables) = (&bench.device, &bench.tables);
         let found = self.0.find(device, tables, block(bench.mapped), &mut []);
-        assert_eq!(found, Some(B));
+        assert_eq!(found, Some(bench.layout.b));
     }
 
     fn write(&mut self, bench: &mut Bench, target: Target) -> (usize, usize) {
@@ -249,7 +251,7 @@ impl Session for Reference {
         let Tables { maps, owners } = &bench.tables;
         let (device, target) = (&bench.device, reference_target(bench.mapped));
         let found = requests::find(device, maps, owners, &self.0, target);
-        assert_eq!(found.len(), B);
+        assert_eq!(found.len(), bench.layout.b);
     }
 
     fn write(&mut self, bench: &mut Bench, target: Target) -> (usize, usize) {
@@ -461,28 +463,64 @@ fn all_calls<S: Session + 'static>(small: &Bench, large: &Bench) -> Vec<Measured
     ]
 }
 
-/// The library's counter mode over a block.
-fn counter_mode() -> Measured {
-    let (text, mut out) = (vec![0x5c; B], vec![0; B]);
+/// So many calls of the library's counter mode, each over so many bytes.
+fn counter_mode(calls: usize, bytes: usize) -> Measured {
+    let (text, mut out) = (vec![0x5c; bytes], vec![0; bytes]);
     Measured::new("counter mode", move || {
-        let text = black_box(&text);
-        hiwalgam::counter_mode(&[0x42; 32], &[0x17; 16], text, black_box(&mut out)).unwrap();
+        for _ in 0..calls {
+            let (text, out) = (black_box(&text), black_box(&mut out));
+            hiwalgam::counter_mode(&[0x42; 32], &[0x17; 16], text, out).unwrap();
+        }
     })
+}
+
+/// The calls of the library that encipher or decipher, each with counter mode alone over the same
+/// numbers of bytes.
+fn with_counter_mode(bench: &Bench) -> Vec<[Measured; 2]> {
+    let (b, s) = (bench.layout.b, bench.layout.s);
+    let map_blocks = VOLUMES * bench.layout.map_blocks();
+    vec![
+        [
+            Measured::on(bench, "read", Library::read),
+            counter_mode(1, b),
+        ],
+        [
+            Measured::on(bench, "rewrite", rewrite::<Library>),
+            counter_mode(1, b),
+        ],
+        // Every block of the slice.
+        [
+            Measured::on(bench, "claim, S 4", claim::<Library>),
+            counter_mode(s, b),
+        ],
+        // Every map block, less its IV.
+        [
+            Measured::on(bench, "close, P 256", close::<Library>),
+            counter_mode(map_blocks, b - 16),
+        ],
+    ]
 }
 
 fn main() {
     let mut random = Random::seeded();
-    let small = Bench::new(&mut random, 4, 256);
-    let large = Bench::new(&mut random, 1, 4096);
+    let small = Bench::new(&mut random, B, 4, 256);
+    let large = Bench::new(&mut random, B, 1, 4096);
     let mut library = all_calls::<Library>(&small, &large);
     let mut reference = all_calls::<Reference>(&small, &large);
-    let mut counter_mode = counter_mode();
     for _ in 0..ROUNDS {
         for (library, reference) in library.iter_mut().zip(&mut reference) {
             library.turn();
             reference.turn();
         }
-        counter_mode.turn();
+    }
+
+    let small_blocks = Bench::new(&mut random, SMALL_B, 4, 256);
+    let mut multiples = [&small, &small_blocks].map(with_counter_mode);
+    for _ in 0..ROUNDS {
+        for [call, alone] in multiples.iter_mut().flatten() {
+            call.turn();
+            alone.turn();
+        }
     }
 
     // In rounds of its own, since a formatting leaves nothing else in the caches.
@@ -524,12 +562,23 @@ fn main() {
         let (library, reference) = (library.microseconds(), reference.microseconds());
         println!("{name:<14} {library:>10.3} {reference:>12.3} {ratio:>18.3}");
     }
-    let alone = counter_mode.microseconds();
-    println!("\nThe library's counter mode alone over {B} bytes: {alone:.3}");
-    println!("A filling looks at {looks} places; each claim from place 0, at {LOOKS_FROM_0}.");
+
+    println!(
+        "\nThe library's calls beside its counter mode alone, over as many bytes in as many texts."
+    );
+    println!("                      B {B}                              B {SMALL_B}");
+    println!("call               call        alone   ratio         call        alone   ratio");
+    let [large_blocks, small_blocks] = &multiples;
+    for rows in large_blocks.iter().zip(small_blocks) {
+        let columns = [rows.0, rows.1].map(|[call, alone]| {
+            let (times, ratio) = ([call, alone].map(Measured::microseconds), call.ratio(alone));
+            format!("{:>12.3} {:>12.3} {ratio:>7.3}", times[0], times[1])
+        });
+        println!("{:<12} {}", rows.0[0].name, columns.join(" "));
+    }
+
+    println!("\nA filling looks at {looks} places; each claim from place 0, at {LOOKS_FROM_0}.");
     for (name, ratio) in [
-        ("read / counter mode", library[0].ratio(&counter_mode)),
-        ("rewrite / counter mode", library[1].ratio(&counter_mode)),
         ("format / copy of as many bytes", library[7].ratio(&copy)),
         // The same slices in the same order: IV blocks copied, texts in counter mode.
         (

@@ -2,8 +2,11 @@
 //! another seed. Each buffer stands between guard bytes, and each call is judged by the whole of
 //! every buffer, guards included.
 
+use std::collections::BTreeSet;
+
 use hiwalgam::Refusal::{KeyLength, TagDiffers, WrongLength};
 use hiwalgam::{GCM_AAD_LIMIT, GCM_TEXT_LIMIT, POSITION_LIMIT, TEXT_LIMIT};
+use hiwalgam_reference::ctr;
 use hiwalgam_tests::adapters::{CFunctions, Reference, Wrapper};
 use hiwalgam_tests::inputs::{Guarded, Random};
 use hiwalgam_tests::interface::{Answer, Ciphers, SERVED};
@@ -176,20 +179,46 @@ fn blocks() {
 }
 
 // ---- counter mode
+//
+// The library enciphers short texts block by block and long ones on bit planes, 16 blocks to a lane and
+// up to 16 lanes at once. Inputs are chosen by that; what is due is the same for both forms.
+
+const BLOCK: usize = 16;
+const LANE: usize = 16 * BLOCK;
+
+/// A text of so many bytes is a short one.
+const SHORT: usize = 96;
+
+/// Blocks of a text after which the counter carries: inside a lane, at its edge, and in other lanes.
+const CARRY_AFTER: [usize; 8] = [1, 7, 15, 16, 17, 31, 32, 255];
+
+/// Every length up to 600, and those around the end of each block and of each lane, of which the last
+/// are above the limit.
+fn text_lengths() -> BTreeSet<usize> {
+    let around = |edge: usize, by: usize| edge - by..=edge + by;
+    let blocks = (BLOCK..=TEXT_LIMIT).step_by(BLOCK);
+    let lanes = (LANE..=TEXT_LIMIT).step_by(LANE);
+    (0..=600)
+        .chain(blocks.flat_map(|edge| around(edge, 1)))
+        .chain(lanes.flat_map(|edge| around(edge, 17)))
+        .collect()
+}
+
+/// The answer to a text of so many bytes.
+fn answer_to(len: usize) -> Answer {
+    if len <= 4096 {
+        SERVED
+    } else {
+        Err(WrongLength)
+    }
+}
 
 #[test]
 fn counter_mode_lengths() {
     let mut random = Random::seeded();
-    let edges = (320..=TEXT_LIMIT)
-        .step_by(16)
-        .flat_map(|edge| [edge - 1, edge, edge + 1]);
-    for len in (0..=300).chain(edges) {
+    for len in text_lengths() {
         let mut arguments = Arguments::ctr(&mut random, len);
-        let answer = if len <= 4096 {
-            SERVED
-        } else {
-            Err(WrongLength)
-        };
+        let answer = answer_to(len);
         assert_eq!(run(CounterMode, &mut arguments), answer, "length {len}");
         if answer == SERVED {
             // Counter mode once more gives the text.
@@ -206,48 +235,131 @@ fn counter_mode_lengths() {
 fn counter_mode_carries() {
     let mut random = Random::seeded();
     for (last, next) in CARRIES {
-        // Two blocks of zeros give the two encrypted counters.
-        let mut arguments = Arguments::ctr(&mut random, 32);
-        arguments.iv = counter(last);
-        arguments.text = Guarded::new(&[0; 32]);
-        assert_eq!(run(CounterMode, &mut arguments), SERVED);
-        for (value, keystream) in [last, next].into_iter().zip(arguments.out.chunks(16)) {
+        let key = random.bytes(32);
+        let [at_last, at_next] = [last, next].map(|value| {
             let mut block = Arguments::right(&mut random, EncryptBlock);
-            block.key = arguments.key.clone();
+            block.key = key.clone();
             block.text = counter(value);
             assert_eq!(run(EncryptBlock, &mut block), SERVED);
-            assert_eq!(&block.out[..], keystream, "counter {value:032x}");
-        }
+            block.out
+        });
 
-        // The carry after each block of a long text, and short texts before and at the carry.
+        // The carry after each block of a long text, and shorter texts before and at the carry.
         for blocks_before in 0..=256 {
-            for len in [0, 1, 16, 17, 100, 1000, 4096] {
+            for len in [0, 1, 16, 17, 32, 100, LANE, LANE + 44, 1000, TEXT_LIMIT] {
                 let mut arguments = Arguments::ctr(&mut random, len);
-                arguments.iv = counter(last.wrapping_sub(blocks_before));
+                arguments.key = key.clone();
+                arguments.iv = counter(last.wrapping_sub(blocks_before as u128));
                 assert_eq!(run(CounterMode, &mut arguments), SERVED);
+
+                let bytes = arguments.text.iter().zip(&arguments.out[..]);
+                let keystream: Vec<u8> = bytes.map(|(text, out)| text ^ out).collect();
+                let mut blocks = keystream.chunks_exact(BLOCK).skip(blocks_before);
+                for (value, encrypted) in [(last, &at_last), (next, &at_next)] {
+                    if let Some(block) = blocks.next() {
+                        assert!(
+                            *block == encrypted[..],
+                            "counter {value:032x} after {blocks_before} blocks of {len} bytes"
+                        );
+                    }
+                }
             }
         }
     }
+}
+
+/// Counter mode of a text from byte 0 on, with no limit on its length, by the reference alone.
+fn without_limit(key: &[u8], iv: &[u8], text: &[u8]) -> Vec<u8> {
+    let mut bytes = text.to_vec();
+    ctr::apply(key.try_into().unwrap(), iv.try_into().unwrap(), &mut bytes);
+    bytes
+}
+
+/// Arguments for a text that has a part of TEXT_LIMIT bytes from each byte of its first two blocks on; a part that begins
+/// inside a block needs more than 16 lanes. The counter carries after so many blocks.
+fn longest(random: &mut Random, last: u128, carry_after: usize) -> Arguments {
+    let mut arguments = Arguments::ctr(random, TEXT_LIMIT + 2 * BLOCK);
+    arguments.iv = counter(last.wrapping_sub(carry_after as u128 - 1));
+    arguments
+}
+
+/// Runs `KeystreamAt` on a part of the text of `arguments`, and compares with that part of `whole`.
+fn run_part(arguments: &Arguments, whole: &[u8], position: usize, len: usize) {
+    let mut part = arguments.clone();
+    part.position = position as u64;
+    part.text = Guarded::new(&arguments.text[position..position + len]);
+    part.out = Guarded::blank(len);
+    assert_eq!(run(KeystreamAt, &mut part), SERVED);
+    let expected = &whole[position..position + len];
+    assert!(
+        part.out[..] == *expected,
+        "position {position}, length {len}"
+    );
 }
 
 #[test]
 fn keystream_from_each_byte() {
     let mut random = Random::seeded();
     for (last, _) in CARRIES {
-        // The counter carries after the third block.
-        let mut whole = Arguments::ctr(&mut random, 250);
-        whole.iv = counter(last.wrapping_sub(2));
-        assert_eq!(run(CounterMode, &mut whole), SERVED);
+        let whole = longest(&mut random, last, 3);
+        let expected = without_limit(&whole.key, &whole.iv, &whole.text);
         for position in 0..=100 {
             for len in [0, 1, 2, 7, 15, 16, 17, 31, 32, 33, 100, 150] {
-                let mut part = whole.clone();
-                part.position = position as u64;
-                part.text = Guarded::new(&whole.text[position..position + len]);
-                part.out = Guarded::blank(len);
-                assert_eq!(run(KeystreamAt, &mut part), SERVED);
-                let expected = &whole.out[position..position + len];
-                assert_eq!(&part.out[..], expected, "position {position}, length {len}");
+                run_part(&whole, &expected, position, len);
             }
+        }
+
+        // The end of the text around that of a lane, counted from the text's first byte or from the
+        // first byte of a block before it.
+        for position in 0..2 * BLOCK {
+            for edge in [1, 2, 3, 15, 16].map(|lanes| lanes * LANE) {
+                for len in edge - 33..=TEXT_LIMIT.min(edge + 17) {
+                    run_part(&whole, &expected, position, len);
+                }
+            }
+        }
+    }
+}
+
+#[test]
+fn carries_from_each_byte() {
+    let mut random = Random::seeded();
+    for (last, _) in CARRIES {
+        for carry_after in CARRY_AFTER {
+            let whole = longest(&mut random, last, carry_after);
+            let expected = without_limit(&whole.key, &whole.iv, &whole.text);
+            for position in 0..2 * BLOCK {
+                for len in [LANE, LANE + BLOCK, TEXT_LIMIT - LANE, TEXT_LIMIT] {
+                    run_part(&whole, &expected, position, len);
+                }
+            }
+        }
+    }
+}
+
+/// A long text in short pieces, for which the library has another form, is the same as at once.
+#[test]
+fn long_text_in_short_pieces() {
+    let mut random = Random::seeded();
+    for (last, _) in CARRIES {
+        for position in 0..2 * BLOCK {
+            let mut whole = Arguments::ctr(&mut random, TEXT_LIMIT);
+            whole.iv = counter(last.wrapping_sub(random.below(256) as u128));
+            whole.position = position as u64;
+            assert_eq!(run(KeystreamAt, &mut whole), SERVED);
+
+            let mut pieces = Vec::new();
+            while pieces.len() < TEXT_LIMIT {
+                let start = pieces.len();
+                let len = (1 + random.below(SHORT)).min(TEXT_LIMIT - start);
+                let mut piece = whole.clone();
+                piece.position = (position + start) as u64;
+                piece.text = Guarded::new(&whole.text[start..start + len]);
+                piece.out = Guarded::blank(len);
+                assert_eq!(run(KeystreamAt, &mut piece), SERVED);
+                pieces.extend_from_slice(&piece.out);
+            }
+            assert!(pieces[..] == whole.out[..], "position {position}");
         }
     }
 }
@@ -255,15 +367,11 @@ fn keystream_from_each_byte() {
 #[test]
 fn keystream_lengths() {
     let mut random = Random::seeded();
-    for len in (0..=300).chain([4079, 4080, 4081, 4095, 4096, 4097, 4112]) {
+    for len in text_lengths() {
         for position in [0, 1, 15, 16, 17, (1 << 32) - 1, POSITION_LIMIT] {
             let mut arguments = Arguments::ctr(&mut random, len);
             arguments.position = position;
-            let answer = if len <= 4096 {
-                SERVED
-            } else {
-                Err(WrongLength)
-            };
+            let answer = answer_to(len);
             assert_eq!(run(KeystreamAt, &mut arguments), answer, "length {len}");
         }
     }
@@ -282,9 +390,15 @@ fn keystream_at_far_positions() {
     for position in positions {
         let block = u128::from(position / 16);
         for iv in CARRIES.map(|(last, _)| last).into_iter().chain([random_iv]) {
-            // From the IV as it is, and so far before it that the text crosses the carry.
-            for iv in [iv, iv.wrapping_sub(block + 1)] {
-                let mut far = Arguments::ctr(&mut random, 70);
+            // From the IV as it is, and so far before it that the text crosses the carry; a short text
+            // and one of more than two lanes.
+            for (iv, len) in [
+                (iv, 70),
+                (iv, 600),
+                (iv.wrapping_sub(block + 1), 70),
+                (iv.wrapping_sub(block + 17), 600),
+            ] {
+                let mut far = Arguments::ctr(&mut random, len);
                 far.iv = counter(iv);
                 far.position = position;
                 assert_eq!(run(KeystreamAt, &mut far), SERVED, "position {position}");
@@ -294,7 +408,7 @@ fn keystream_at_far_positions() {
                 let mut near = far.clone();
                 near.iv = counter(iv.wrapping_add(block));
                 near.text = Guarded::new(&[&[0; 16][..skipped], &far.text].concat());
-                near.out = Guarded::blank(skipped + 70);
+                near.out = Guarded::blank(skipped + len);
                 assert_eq!(run(CounterMode, &mut near), SERVED);
                 assert_eq!(far.out[..], near.out[skipped..], "position {position}");
             }
@@ -306,18 +420,20 @@ fn keystream_at_far_positions() {
 #[test]
 fn inputs_may_overlap() {
     let mut random = Random::seeded();
-    let bytes = random.bytes(100);
-    let (key, iv, text) = (&bytes[10..42], &bytes[20..36], &bytes[..]);
-    let outs = [&CFunctions as &dyn Ciphers, &Wrapper, &Reference].map(|ciphers| {
-        let mut outs = [[0; 100]; 2];
-        let mut tag = [0; 16];
-        let [ctr, gcm] = &mut outs;
-        assert_eq!(ciphers.counter_mode(key, iv, text, ctr), SERVED);
-        let iv = &iv[..12];
-        assert_eq!(ciphers.gcm_seal(key, iv, iv, text, gcm, &mut tag), SERVED);
-        (outs, tag)
-    });
-    assert!(outs[0] == outs[2] && outs[1] == outs[2]);
+    for len in [SHORT, LANE] {
+        let bytes = random.bytes(len);
+        let (key, iv, text) = (&bytes[10..42], &bytes[20..36], &bytes[..]);
+        let outs = [&CFunctions as &dyn Ciphers, &Wrapper, &Reference].map(|ciphers| {
+            let mut outs = [vec![0; len], vec![0; len]];
+            let mut tag = [0; 16];
+            let [ctr, gcm] = &mut outs;
+            assert_eq!(ciphers.counter_mode(key, iv, text, ctr), SERVED);
+            let iv = &iv[..12];
+            assert_eq!(ciphers.gcm_seal(key, iv, iv, text, gcm, &mut tag), SERVED);
+            (outs, tag)
+        });
+        assert!(outs[0] == outs[2] && outs[1] == outs[2], "{len} bytes");
+    }
 }
 
 // ---- GCM

@@ -4,6 +4,7 @@
 use std::collections::BTreeMap;
 
 use hiwalgam::Refusal::{TagDiffers, WrongLength};
+use hiwalgam::TEXT_LIMIT;
 use hiwalgam_reference::aes::RoundKeys;
 use hiwalgam_reference::gcm;
 use hiwalgam_tests::adapters::{CFunctions, Reference, Wrapper};
@@ -24,6 +25,10 @@ const EXPECTED: [(&str, usize); 6] = [
 
 /// What an out buffer holds before a call.
 const FILL: u8 = 0xa5;
+
+/// How many blocks of a long text stand before the published one: the library enciphers a long text on
+/// bit planes, 16 blocks to a lane, and a short one block by block.
+const BLOCKS_BEFORE: [usize; 9] = [0, 1, 7, 15, 16, 17, 31, 32, 252];
 
 struct Case<'a> {
     id: &'a str,
@@ -99,6 +104,29 @@ impl<'a> Case<'a> {
             encrypted.extend(out);
         }
         self.same(ciphers, "blocks", &encrypted, &self.cipher);
+        // Counter mode of zeros, where the block is the counter.
+        for (block, cipher) in text.chunks(16).zip(self.cipher.chunks(16)) {
+            self.in_long_texts(ciphers, block, &[0; 16], cipher);
+        }
+    }
+
+    /// Counter mode of a long text that has the published one inside: the IV is as many blocks before
+    /// the published one as stand before it in the text.
+    fn in_long_texts(&self, ciphers: &dyn Ciphers, iv: &[u8], text: &[u8], cipher: &[u8]) {
+        let counter = u128::from_be_bytes(iv.try_into().unwrap());
+        for before in BLOCKS_BEFORE {
+            let iv = counter.wrapping_sub(before as u128).to_be_bytes();
+            let mut long = [FILL; TEXT_LIMIT];
+            let place = 16 * before..16 * before + text.len();
+            long[place.clone()].copy_from_slice(text);
+            // The text may end with the published one.
+            for len in [place.end.max(256), TEXT_LIMIT] {
+                let mut out = vec![FILL; len];
+                let answer = ciphers.counter_mode(&self.key, &iv, &long[..len], &mut out);
+                assert_eq!(answer, SERVED, "{} after {before} blocks", self.id);
+                self.same(ciphers, "long text", &out[place.clone()], cipher);
+            }
+        }
     }
 
     fn ecb_iterated(&self, ciphers: &dyn Ciphers) {
@@ -126,6 +154,7 @@ impl<'a> Case<'a> {
                 let answer = ciphers.counter_mode(&self.key, &self.iv, text, &mut out);
                 assert_eq!(answer, SERVED, "{}", self.id);
                 self.same(ciphers, "counter mode", &out, cipher);
+                self.in_long_texts(ciphers, &self.iv, text, cipher);
             }
             // The rest of the text from each byte of it.
             for start in 0..=text.len() {

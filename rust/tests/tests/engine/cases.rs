@@ -107,7 +107,7 @@ fn length_in_64_bits() {
     }
 }
 
-/// A thread with a small stack has room for every call: the header promises that 16 KiB are enough.
+/// A thread with a small stack has room for every call: the header promises that 32 KiB are enough.
 #[test]
 fn stack_of_a_call() {
     let mut random = Random::seeded();
