@@ -8,7 +8,7 @@ use lib.Arith.{digits-lt}
 use Rattle.model.specs.declared.Geometry.{Geometry}
 use Rattle.model.specs.Geometry.{Allowed, perBlock, mapBlocks, headerBlocks, deviceLength}
 use Rattle.model.specs.Geometry.{cellStart, headerStart, mapStart, sliceStart, sliceSize, ivStart, blockStart}
-use Rattle.model.specs.Session.{blockCount, slot, sliceOf, offsetOf}
+use Rattle.model.specs.Session.{slot, sliceOf, offsetOf}
 
 module _ (g : Geometry) (ok : Allowed g) where
   -- ---- numbers
@@ -38,8 +38,8 @@ module _ (g : Geometry) (ok : Allowed g) where
   unfolding deviceLength
   deviceLength-small = omega (arith, bytes-small (g .p) (omega arith))
 
-  pub blockCount-small : (i : ℕ) → blockCount g i ≤ 4096 * 256
-  blockCount-small i = mul-le-mul {n₂ = 4096} {m₂ = 256} (ok .slices-most) s-small
+  pub blocks-small : (n : ℕ) → n ≤ g .p → n * g .s ≤ 4096 * 256
+  blocks-small n l = mul-le-mul {n₂ = 4096} {m₂ = 256} (omega (arith, ok .slices-most)) s-small
 
   -- The blocks of i headers, and the bytes up to the first map block of header i.
   pub headers-small : (i : ℕ) → i ≤ 14 → i * (1 + mapBlocks g) ≤ 14 * 18
@@ -73,8 +73,8 @@ module _ (g : Geometry) (ok : Allowed g) where
   pub slot-lt : (i σ : ℕ) → i ≤ 14 → σ < g .p → slot g i σ < 15 * g .p
   slot-lt i σ l h = digits-lt (omega arith) h
 
-  pub sliceOf-lt : (a : ℕ) → a < g .p * g .s → sliceOf g a < g .p
-  sliceOf-lt a l = div-lt-iff-lt-mul (ok .slice-least) .1 l
+  pub sliceOf-lt : (n a : ℕ) → a < n * g .s → sliceOf g a < n
+  sliceOf-lt n a l = div-lt-iff-lt-mul (ok .slice-least) .1 l
 
   pub offsetOf-lt : (a : ℕ) → offsetOf g a < g .s
   offsetOf-lt a = mod-lt a (ok .slice-least)

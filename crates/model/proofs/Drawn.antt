@@ -51,15 +51,15 @@ module _ (g : Geometry) (n : ℕ) (drawn : List ℕ) (long : length drawn ≡ fo
   madeBelow-length zero l = length-replicate {A = ℕ} 32 0
   madeBelow-length (suc i) l = drawnVmk-length i (omega arith)
 
-  pub madeText-length : (i : ℕ) → i < n → length (madeText g drawn i) ≡ 72
-  madeText-length i l =
-      simp (length-append, drawnVek-length i l, madeBelow-length i l, bigEndian-length 4 (g .p), bigEndian-length 4 (g .s))
+  pub madeText-length : (counts : List ℕ) (i : ℕ) → i < n → length (madeText g counts drawn i) ≡ 72
+  madeText-length counts i l =
+      simp (length-append, drawnVek-length i l, madeBelow-length i l, bigEndian-length)
 
   pub madeCell-length : (keys : List ℕ) (i : ℕ) → i < n → length (madeCell g n keys drawn i) ≡ 60
   madeCell-length keys i l = sealed-length _ _ _ 32 _ (cellIv-length i l) (drawnVmk-length i l)
 
-  pub madeHeader-length : (i : ℕ) → i < n → length (madeHeader g n drawn i) ≡ 100
-  madeHeader-length i l = sealed-length _ _ _ 72 _ (headerIv-length i l) (madeText-length i l)
+  pub madeHeader-length : (counts : List ℕ) (i : ℕ) → i < n → length (madeHeader g n counts drawn i) ≡ 100
+  madeHeader-length counts i l = sealed-length _ _ _ 72 _ (headerIv-length i l) (madeText-length counts i l)
 
   -- Each of the first c cells stands where it was stored.
   pub cellPatches-stand : (keys : List ℕ) (c : ℕ) (s : List ℕ) → c ≤ n → cellStart c ≤ length s → (j : ℕ) → j < c

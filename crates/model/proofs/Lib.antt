@@ -1,5 +1,6 @@
 pub mod Parts
 pub mod Tests
+pub mod Below
 pub mod Bounds
 pub mod Order
 pub mod Requests

@@ -1,6 +1,7 @@
 -- The first refusal that applies stands, whatever the rest says. Assumes nothing.
 use Prim.Native.Nat.{ℕ, zero, suc, _<_}
 use mathlib.Core.Path.{_≡_, refl}
+use mathlib.Core.List.{List}
 use native.Mathlib.Omega.{arith}
 use Rattle.refusals.proofs.Refuse.{Stands-first, rest-first, refuse-first}
 use Rattle.model.specs.declared.Geometry.{Geometry}
@@ -25,20 +26,24 @@ standing-first device maps owners s =
     (geometry-first 20 (s .geometry) _
     (refuse-first _ 20 _
     (refuse-first _ 20 _
+    (refuse-first _ 20 _
     (refuse-first _ 2 _
     (refuse-first _ 4 _
-    (refuse-first _ 4 (λ rest. rest) rest-first))))))
+    (refuse-first _ 4 (λ rest. rest) rest-first)))))))
 
-pub formatRefusal-first : (device : ℕ) (g : Geometry) (n keys tape position : ℕ) → 0 < formatRefusal device g n keys tape position 0
-    → (rest : ℕ) → formatRefusal device g n keys tape position rest ≡ formatRefusal device g n keys tape position 0
+pub formatRefusal-first : (device : ℕ) (g : Geometry) (n keys : ℕ) (counts : List ℕ) (tape position : ℕ)
+    → 0 < formatRefusal device g n keys counts tape position 0
+    → (rest : ℕ) → formatRefusal device g n keys counts tape position rest ≡ formatRefusal device g n keys counts tape position 0
 unfolding formatRefusal
-formatRefusal-first device g n keys tape position =
+formatRefusal-first device g n keys counts tape position =
     geometry-first 1 g _
+    (refuse-first _ 1 _
+    (refuse-first _ 1 _
     (refuse-first _ 2 _
     (refuse-first _ 23 _
     (refuse-first _ 23 _
     (refuse-first _ 3 _
-    (refuse-first _ 21 (λ rest. rest) rest-first)))))
+    (refuse-first _ 21 (λ rest. rest) rest-first)))))))
 
 -- What a refusal gives.
 pub unless-refused : {A : Type 0} (n : ℕ) (refusal : ℕ → A) (served : A) → 0 < n → unless n refusal served ≡ refusal n

@@ -1,5 +1,5 @@
 -- Laws of the refusals of each call: what holds where none of them applies. Assumes nothing.
-use Prim.Native.Nat.{ℕ, _-_, _*_, _≤_, _<_}
+use Prim.Native.Nat.{ℕ, _+_, _-_, _*_, _≤_, _<_}
 use mathlib.Core.Path.{_≡_, refl, ap, _∙_}
 use mathlib.Core.List.{List}
 use mathlib.Core.Bool.{true, false, not}
@@ -11,16 +11,29 @@ use borrow.Author.Tests.{leb-false, ltb-true, ltb-false, eqb-true, not-false, le
 use Rattle.refusals.proofs.Refuse.{refuse-none, refuse-false}
 use Rattle.model.specs.declared.Geometry.{Geometry}
 use Rattle.model.specs.declared.Session.{Session}
-use Rattle.model.specs.Geometry.{Allowed, deviceLength}
-use Rattle.model.specs.Session.{Held, blockCount, slot, sliceOf, entryOf, standing, asked, short}
-use Rattle.model.specs.Conditions.{Usable, TablesFit, EntryFits, Enough}
+use Rattle.model.specs.Geometry.{Allowed, countIn, badCount, anyBadCount, deviceLength}
+use Rattle.model.specs.Session.{Held, countOf, blockCount, slot, sliceOf, entryOf, standing, asked, short}
+use Rattle.model.specs.Conditions.{CountsFit, Counted, Usable, TablesFit, EntryFits, Enough}
 use Rattle.model.specs.Opening.{missing, openRefusal}
 use Rattle.model.specs.Read.{readRefusal}
 use Rattle.model.specs.Write.{writeRefusal}
 use Rattle.model.specs.Close.{closeNeed, closeRefusal}
 use Rattle.model.specs.Format.{formatNeed, formatRefusal}
 use Rattle.model.proofs.Tests.{or-true, or-false, equal-passes, badGeometry-none, badGeometry-allowed, badEntry-false, badEntry-fits}
+use Rattle.model.proofs.Tests.{badCount-false, badCount-fits}
+use Rattle.model.proofs.Below.{anyBelow-none, anyBelow-fails}
 use Rattle.model.proofs.Bounds.{slot-lt, sliceOf-lt}
+
+-- ---- counts
+
+module _ (p : ℕ) (counts : List ℕ) (n : ℕ) where
+  pub anyBadCount-none : anyBadCount p counts n ≡ false → CountsFit p counts n
+  unfolding anyBadCount
+  anyBadCount-none e i l = badCount-false p (countIn counts i) (anyBelow-fails _ n e i l)
+
+  pub anyBadCount-fits : CountsFit p counts n → anyBadCount p counts n ≡ false
+  unfolding anyBadCount
+  anyBadCount-fits fits = anyBelow-none (λ i. badCount p (countIn counts i)) n (λ i l. badCount-fits p (countIn counts i) (fits i l))
 
 -- ---- 20, 2, 4
 
@@ -40,13 +53,21 @@ module _ (device maps owners : ℕ) (s : Session) (rest : ℕ) where
       let p4 = refuse-none _ _ _ (p3 .1) in
       let p5 = refuse-none _ _ _ (p4 .1) in
       let p6 = refuse-none _ _ _ (p5 .1) in
-      let p7 = refuse-none _ _ _ (p6 .1) in (
+      let p7 = refuse-none _ _ _ (p6 .1) in
+      let p8 = refuse-none _ _ _ (p7 .1) in (
         record {
-          usable = record { opened = not-false _ (p1 .0); allowed = p2 .0; top = ltb-false _ _ (p3 .0); place = ltb-false _ _ (p4 .0) };
-          long = eqb-true _ _ (not-false _ (p5 .0));
-          tables = (eqb-true _ _ (not-false _ (p6 .0)), eqb-true _ _ (not-false _ (p7 .0)));
+          usable =
+              record {
+                opened = not-false _ (p1 .0);
+                allowed = p2 .0;
+                top = ltb-false _ _ (p3 .0);
+                place = ltb-false _ _ (p4 .0);
+                counted = anyBadCount-none _ _ _ (p5 .0);
+              };
+          long = eqb-true _ _ (not-false _ (p6 .0));
+          tables = (eqb-true _ _ (not-false _ (p7 .0)), eqb-true _ _ (not-false _ (p8 .0)));
         },
-        p7 .1,
+        p8 .1,
       )
 
   pub standing-stands : Stands device maps owners s → standing device maps owners s rest ≡ rest
@@ -56,6 +77,7 @@ module _ (device maps owners : ℕ) (s : Session) (rest : ℕ) where
       ∙ badGeometry-allowed _ _ _ (q .usable .allowed)
       ∙ refuse-false _ _ _ (le-ltb _ _ (q .usable .top))
       ∙ refuse-false _ _ _ (le-ltb _ _ (q .usable .place))
+      ∙ refuse-false _ _ _ (anyBadCount-fits _ _ _ (q .usable .counted))
       ∙ refuse-false _ _ _ (equal-passes _ _ (q .long))
       ∙ refuse-false _ _ _ (equal-passes _ _ (q .tables .0))
       ∙ refuse-false _ _ _ (equal-passes _ _ (q .tables .1))
@@ -65,7 +87,7 @@ module _ (device maps owners : ℕ) (s : Session) (rest : ℕ) where
 -- A block that a request may ask for.
 pub record Asked (maps : List ℕ) (s : Session) (i a len : ℕ) : Type 0 where
   pub volume : i ≤ s .k
-  pub address : a < blockCount (s .geometry) i
+  pub address : a < blockCount s i
   pub size : len ≡ s .geometry .b
   pub mapped : EntryFits (s .geometry) (entryOf maps (s .geometry) i a)
 
@@ -192,16 +214,17 @@ openRefusal-none g device key maps owners perm e =
 
 -- ---- formatting: 1, 2, 23, 3, 21
 
-module _ (device : ℕ) (g : Geometry) (n keys tape position : ℕ) where
+module _ (device : ℕ) (g : Geometry) (n keys : ℕ) (counts : List ℕ) (tape position : ℕ) where
   -- What a formatting may be handed.
   pub record Formattable : Type 0 where
     pub allowed : Allowed g
+    pub counted : Counted (g .p) n counts
     pub long : device ≡ deviceLength g
     pub count : (1 ≤ n) × (n ≤ 15)
     pub keyed : keys ≡ 32 * n
     pub enough : Enough tape position (formatNeed g n)
 
-  pub formatRefusal-none : (rest : ℕ) → formatRefusal device g n keys tape position rest ≡ 0 → Formattable
+  pub formatRefusal-none : (rest : ℕ) → formatRefusal device g n keys counts tape position rest ≡ 0 → Formattable
   unfolding formatRefusal
   formatRefusal-none rest e =
       let p1 = badGeometry-none _ _ _ e in
@@ -210,18 +233,23 @@ module _ (device : ℕ) (g : Geometry) (n keys tape position : ℕ) where
       let p4 = refuse-none _ _ _ (p3 .1) in
       let p5 = refuse-none _ _ _ (p4 .1) in
       let p6 = refuse-none _ _ _ (p5 .1) in
+      let p7 = refuse-none _ _ _ (p6 .1) in
+      let p8 = refuse-none _ _ _ (p7 .1) in
       record {
         allowed = p1 .0;
-        long = eqb-true _ _ (not-false _ (p2 .0));
-        count = (ltb-false _ _ (p3 .0), ltb-false _ _ (p4 .0));
-        keyed = eqb-true _ _ (not-false _ (p5 .0));
-        enough = short-false _ _ _ (p6 .0);
+        counted = (eqb-true _ _ (not-false _ (p2 .0)), anyBadCount-none _ _ _ (p3 .0));
+        long = eqb-true _ _ (not-false _ (p4 .0));
+        count = (ltb-false _ _ (p5 .0), ltb-false _ _ (p6 .0));
+        keyed = eqb-true _ _ (not-false _ (p7 .0));
+        enough = short-false _ _ _ (p8 .0);
       }
 
-  pub formatRefusal-rest : Formattable → (rest : ℕ) → formatRefusal device g n keys tape position rest ≡ rest
+  pub formatRefusal-rest : Formattable → (rest : ℕ) → formatRefusal device g n keys counts tape position rest ≡ rest
   unfolding formatRefusal
   formatRefusal-rest q rest =
       badGeometry-allowed _ _ _ (q .allowed)
+      ∙ refuse-false _ _ _ (equal-passes _ _ (q .counted .0))
+      ∙ refuse-false _ _ _ (anyBadCount-fits _ _ _ (q .counted .1))
       ∙ refuse-false _ _ _ (equal-passes _ _ (q .long))
       ∙ refuse-false _ _ _ (le-ltb _ _ (q .count .0))
       ∙ refuse-false _ _ _ (le-ltb _ _ (q .count .1))
@@ -230,10 +258,15 @@ module _ (device : ℕ) (g : Geometry) (n keys tape position : ℕ) where
 
 -- ---- the entry of an asked block
 
--- It stands in the map table.
+-- Its logical slice is one of the volume's N, which are at most P, and its entry stands in the map table.
+pub asked-slice : {device maps owners : ℕ} {s : Session} {i a : ℕ} → Stands device maps owners s → i ≤ s .k → a < blockCount s i
+    → (sliceOf (s .geometry) a < countOf s i) × (countOf s i ≤ s .geometry .p)
+asked-slice {s = s} {i = i} {a = a} h v l =
+    (sliceOf-lt (s .geometry) (h .usable .allowed) (countOf s i) a l, h .usable .counted i (omega arith) .1)
+
 pub asked-slot : {device owners : ℕ} {maps : List ℕ} {s : Session} {i a len : ℕ} → Stands device (length maps) owners s → Asked maps s i a len
     → slot (s .geometry) i (sliceOf (s .geometry) a) < length maps
 asked-slot {s = s} {i = i} {a = a} h q =
-    let ok = h .usable .allowed in
+    let slice = asked-slice h (q .volume) (q .address) in
     rw (h .tables .0)
-    (slot-lt (s .geometry) ok i _ (omega (arith, q .volume, h .usable .top)) (sliceOf-lt (s .geometry) ok a (q .address)))
+    (slot-lt (s .geometry) (h .usable .allowed) i _ (omega (arith, q .volume, h .usable .top)) (omega (arith, slice .0, slice .1)))

@@ -111,18 +111,18 @@ module _ (g : Geometry) (ok : Allowed g) (device vmk text : List ℕ) (i : ℕ) 
   pub header-sealed : openHeader vmk i (headerOf g device i) ≡ Text text → Sealed vmk (16 + i) (headerStart g i) 72 device text
   header-sealed = opens-sealed vmk (16 + i) (headerStart g i) 72 (g .b * (1 + mapBlocks g)) device text header-wide
 
-pub header-text : (vek below : List ℕ) (p s : ℕ) → length vek ≡ 32 → length below ≡ 32 → p < 256 ^ 4 → s < 256 ^ 4
-    → HeaderText (vek ++ (below ++ (fourBytes p ++ fourBytes s))) vek below p s
-header-text vek below p s e f lp ls =
+pub header-text : (vek below : List ℕ) (n s : ℕ) → length vek ≡ 32 → length below ≡ 32 → n < 256 ^ 4 → s < 256 ^ 4
+    → HeaderText (vek ++ (below ++ (fourBytes n ++ fourBytes s))) vek below n s
+header-text vek below n s e f ln ls =
     record {
       first = part-first vek _ 32 e;
       second = part-next vek below _ 32 32 e f;
       third =
-          ap number (part-right vek _ 32 e 32 4 ∙ part-next below (fourBytes p) (fourBytes s) 32 4 f (bigEndian-length 4 p))
-          ∙ fourBytes-number p lp;
+          ap number (part-right vek _ 32 e 32 4 ∙ part-next below (fourBytes n) (fourBytes s) 32 4 f (bigEndian-length 4 n))
+          ∙ fourBytes-number n ln;
       fourth =
           ap number (part-right vek _ 32 e 36 4 ∙ part-right below _ 32 f 4 4
-          ∙ part-last (fourBytes p) (fourBytes s) 4 4 (bigEndian-length 4 p) (bigEndian-length 4 s))
+          ∙ part-last (fourBytes n) (fourBytes s) 4 4 (bigEndian-length 4 n) (bigEndian-length 4 s))
           ∙ fourBytes-number s ls;
     }
 

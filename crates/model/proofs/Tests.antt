@@ -1,16 +1,17 @@
 -- Laws of tests, and of a geometry and an entry that pass them. Assumes nothing.
-use Prim.Native.Nat.{ℕ, suc, _≤_, _<_}
+use Prim.Native.Nat.{ℕ, suc, _/_, _%_, _≤_, _<_}
 use mathlib.Core.Path.{_≡_, refl, sym, ap, _∙_}
-use mathlib.Core.Bool.{Bool, true, false, not, _||_, false≢true}
+use mathlib.Core.Bool.{Bool, true, false, not, _||_, _&&_, false≢true}
 use mathlib.Core.Logic.{_⊎_, inl, inr, ⊎-elim}
+use mathlib.Core.List.{List}
 use native.Mathlib.Nat.{eq-or-lt-of-le}
 use lib.Dec.{ltb, eqb}
 use borrow.Author.Tests.{ltb-true, ltb-false, eqb-true, eqb-false, not-false, eq-eqb, lt-ltb, le-ltb}
 use Rattle.refusals.proofs.Refuse.{refuse-none, refuse-false}
 use Rattle.model.specs.declared.Geometry.{Geometry}
-use Rattle.model.specs.Geometry.{badGeometry}
-use Rattle.model.specs.Session.{unmapped, badEntry}
-use Rattle.model.specs.Geometry.{Allowed}
+use Rattle.model.specs.Geometry.{Allowed, badGeometry, badCount, countIn}
+use Rattle.model.specs.Session.{unmapped, badEntry, placed, badEntryAt}
+use Rattle.model.specs.Conditions.{CountFits, EntryFitsAt}
 
 -- ---- tests
 
@@ -21,6 +22,10 @@ or-true false b e = inr e
 pub or-false : (a b : Bool) → (a || b) ≡ false → (a ≡ false) × (b ≡ false)
 or-false true b e = absurd (false≢true (sym e))
 or-false false b e = (refl, e)
+
+pub and-true : (a b : Bool) → (a && b) ≡ true → (a ≡ true) × (b ≡ true)
+and-true true b e = (refl, e)
+and-true false b e = absurd (false≢true e)
 
 pub below : (a b : ℕ) → (a < b) ⊎ (b ≤ a)
 below a b = go (ltb a b) refl
@@ -74,7 +79,19 @@ badGeometry-allowed number g rest ok =
     size : not (eqb (g .b) 1024 || eqb (g .b) 4096) ≡ false
     size = ⊎-elim (λ e. rw (eq-eqb (g .b) 1024 e) refl) (λ e. rw e refl) (ok .block)
 
+-- ---- counts
+
+pub badCount-false : (p n : ℕ) → badCount p n ≡ false → CountFits p n
+badCount-false p n e = let q = or-false (ltb n 1) (ltb p n) e in (ltb-false n 1 (q .0), ltb-false p n (q .1))
+
+pub badCount-fits : (p n : ℕ) → CountFits p n → badCount p n ≡ false
+badCount-fits p n fits = rw (le-ltb n 1 (fits .0), le-ltb p n (fits .1)) refl
+
 -- ---- entries
+
+or-right : (b : Bool) {c : Bool} → c ≡ true → (b || c) ≡ true
+or-right true e = refl
+or-right false e = e
 
 pub badEntry-false : (p x : ℕ) → badEntry p x ≡ false → (x ≡ unmapped) ⊎ (x < p)
 badEntry-false p x e = ⊎-elim (λ q. inl (eqb-true _ _ q)) (λ q. inr (ltb-true _ _ q)) (or-true _ _ (not-false _ e))
@@ -83,9 +100,22 @@ badEntry-false p x e = ⊎-elim (λ q. inl (eqb-true _ _ q)) (λ q. inr (ltb-tru
 pub badEntry-fits : (p x : ℕ) → (x ≡ unmapped) ⊎ (x < p) → badEntry p x ≡ false
 badEntry-fits p x w = ap not whole
   where
-    or-right : (b : Bool) {c : Bool} → c ≡ true → (b || c) ≡ true
-    or-right true e = refl
-    or-right false e = e
-
     whole : (eqb x unmapped || ltb x p) ≡ true
     whole = ⊎-elim (λ e. rw (eq-eqb x unmapped e) refl) (λ l. or-right (eqb x unmapped) (lt-ltb x p l)) w
+
+-- The same at an index of the map table (document 02, P4).
+module _ (p : ℕ) (counts : List ℕ) (n x : ℕ) where
+  pub placed-true : placed p counts n x ≡ true → (x < p) × (n % p < countIn counts (n / p))
+  placed-true e = let q = and-true (ltb x p) _ e in (ltb-true x p (q .0), ltb-true _ _ (q .1))
+
+  pub placed-below : x < p → n % p < countIn counts (n / p) → placed p counts n x ≡ true
+  placed-below l m = rw (lt-ltb x p l, lt-ltb (n % p) (countIn counts (n / p)) m) refl
+
+  pub badEntryAt-false : badEntryAt p counts n x ≡ false → EntryFitsAt p counts n x
+  badEntryAt-false e = ⊎-elim (λ q. inl (eqb-true _ _ q)) (λ q. inr (placed-true q)) (or-true _ _ (not-false _ e))
+
+  pub badEntryAt-fits : EntryFitsAt p counts n x → badEntryAt p counts n x ≡ false
+  badEntryAt-fits w = ap not whole
+    where
+      whole : (eqb x unmapped || placed p counts n x) ≡ true
+      whole = ⊎-elim (λ e. rw (eq-eqb x unmapped e) refl) (λ l. or-right (eqb x unmapped) (placed-below (l .0) (l .1))) w

@@ -1,10 +1,11 @@
 -- The starred bench cases of document 01 ("Bench cases"), as document 02 has them, as rows of one table; further rows for what they
--- leave open, for the limits of a formatting (document 02, P1) and for the start place (document 02, P2). Assumes nothing.
+-- leave open, for the limits of a formatting (document 02, P1), for the start place (document 02, P2) and for the counts of slices
+-- (document 02, P4). Assumes nothing.
 use Prim.Native.Nat.{ℕ, _+_, _*_}
 use mathlib.Core.Path.{_≡_}
-use mathlib.Core.Bool.{true}
+use mathlib.Core.Bool.{Bool, true, false}
 use mathlib.Core.List.{List, [], _∷_, _++_}
-use lib.ListN.{replicate}
+use lib.ListN.{replicate, set}
 use Rattle.field.specs.Field.{times}
 use Rattle.field.specs.Sbox.{sbox}
 use Rattle.ctr.specs.CounterMode.{increment}
@@ -13,10 +14,10 @@ use Rattle.model.specs.declared.Session.{Session}
 use Rattle.model.specs.declared.Search.{Search}
 use Rattle.model.specs.declared.Search.the-variants.{Free, Bad, Full}
 use Rattle.model.specs.Geometry.{badGeometry, mapBlocks, headerBlocks, deviceLength, numberAt, fourBytes, cellStart, headerStart, mapStart}
-use Rattle.model.specs.Geometry.{ivStart, blockStart}
+use Rattle.model.specs.Geometry.{ivStart, blockStart, countIn}
 use Rattle.model.specs.Session.{held, startingAt, unmapped, sliceOf, offsetOf, standing, asked, noKeys}
 use Rattle.model.specs.Search.{firstFree}
-use Rattle.model.specs.Opening.{Tables, withTables, noSession}
+use Rattle.model.specs.Opening.{Loaded, Tables, Spoilt, settle, badHeader, withTables, noSession}
 use Rattle.model.specs.Write.{full, claimOutcome, WriteResult}
 use Rattle.model.specs.Close.{closeRefusal, closedSession}
 use Rattle.model.specs.Format.{formatNeed, formatRefusal}
@@ -28,16 +29,21 @@ sized b s p = record { b = b; s = s; p = p }
 abbrev pub stickA : Geometry
 stickA = sized 1024 4 4
 
--- An open session on a geometry, with its start place at 0.
+-- An open session on a geometry, with its start place at 0 and N = P for each volume.
 abbrev pub session : Geometry → (k : ℕ) → Session
-session g k = record { geometry = g; k = k; keys = noKeys; opened = true; start = 0 }
+session g k = record { geometry = g; k = k; keys = noKeys; opened = true; start = 0; counts = replicate 15 (g .p) }
+
+-- The same on stick A, with another N for volume i (document 02, P4).
+abbrev pub counting : (k i n : ℕ) → Session
+counting k i n =
+    record { geometry = stickA; k = k; keys = noKeys; opened = true; start = 0; counts = set (replicate 15 4) i n }
 
 -- The refusal of a session on a device of n bytes, with tables that fit, and of an asked address over an unmapped entry.
 abbrev pub onDevice : Geometry → ℕ → ℕ
 onDevice g n = standing n (15 * g .p) (g .p) (session g 0) 0
 
-abbrev pub atAddress : Geometry → ℕ → ℕ
-atAddress g a = asked (replicate (15 * g .p) unmapped) (session g 0) 0 a (g .b)
+abbrev pub atAddress : Session → (i a : ℕ) → ℕ
+atAddress s i a = asked (replicate (15 * s .geometry .p) unmapped) s i a (s .geometry .b)
 
 -- The refusal of a geometry at opening, and of a session on the device and the tables of stick A.
 abbrev pub sizes : (b s p : ℕ) → ℕ
@@ -46,13 +52,37 @@ sizes b s p = badGeometry 1 (sized b s p) 0
 abbrev pub inSession : Session → ℕ
 inSession s = standing 52224 60 4 s 0
 
--- The refusal of a formatting of stick A with so many keys, of so many bytes, and a tape of so many.
+-- The refusal of a formatting of stick A with so many keys, of so many bytes, N = P for each, and a tape of so many.
 abbrev pub formats : (n keys tape : ℕ) → ℕ
-formats n keys tape = formatRefusal 52224 stickA n keys tape 0 0
+formats n keys tape = formatRefusal 52224 stickA n keys (replicate n 4) tape 0 0
+
+-- The refusal of a formatting of so many bytes as stick A with n keys and these counts.
+abbrev pub formatsWith : (device n : ℕ) → (counts : List ℕ) → ℕ
+formatsWith device n counts = formatRefusal device stickA n (32 * n) counts 60000 0 0
 
 -- The refusal of a close with empty maps and k 1, with a tape of so many bytes.
 abbrev pub closing : (tape position : ℕ) → ℕ
 closing tape position = closeRefusal 52224 (held (replicate 60 unmapped) (replicate 4 0) position (session stickA 1)) tape
+
+-- The refusal of a close of a session with the slice 2 at an index of the map table, all else unmapped.
+abbrev pub closingWith : Session → (n : ℕ) → ℕ
+closingWith s n = closeRefusal 52224 (held (set (replicate 60 unmapped) n 2) (replicate 4 0) 0 s) 60000
+
+-- The refusal, 0 for none, of an opening of stick A at entry x of index n, with counts and owners so far.
+abbrev pub refusalOf : Loaded → ℕ
+refusalOf (Tables maps owners) = 0
+refusalOf (Spoilt n) = n
+
+abbrev pub settles : (counts owners : List ℕ) → (x n : ℕ) → ℕ
+settles counts owners x n = refusalOf (settle 4 counts x n (replicate 60 unmapped) owners Tables)
+
+-- 1 where stick A refuses a header with this N and this S, else 0.
+abbrev pub bit : Bool → ℕ
+bit true = 1
+bit false = 0
+
+abbrev pub header : (n s : ℕ) → ℕ
+header n s = bit (badHeader stickA (replicate 64 0 ++ (fourBytes n ++ fourBytes s)))
 
 -- The answer of a write: its number, 0 where served, and the places looked at.
 abbrev pub shown : WriteResult → List ℕ
@@ -75,7 +105,7 @@ claimsFrom start owners perm tape =
 
 -- The same in a session that an opening gave which loaded these owners, with this permutation.
 abbrev pub claims : (owners perm : List ℕ) → List ℕ
-claims owners perm = claimsFrom (withTables stickA perm 0 noKeys (Tables [] owners) .session .start) owners perm 1024
+claims owners perm = claimsFrom (withTables stickA perm 0 noKeys [] (Tables [] owners) .session .start) owners perm 1024
 
 -- A case: what the definitions give, and what the document says.
 pub record Case : Type 0 where
@@ -99,7 +129,7 @@ cases =
     -- A: slice 2, offset 3 is device block 45, byte 46,080.
     ∷ row (blockStart stickA 2 3 ∷ (45 * 1024) ∷ []) (46080 ∷ 46080 ∷ [])
     -- A: address 15 is served, 16 is 12.
-    ∷ row (atAddress stickA 15 ∷ atAddress stickA 16 ∷ []) (0 ∷ 12 ∷ [])
+    ∷ row (atAddress (session stickA 0) 0 15 ∷ atAddress (session stickA 0) 0 16 ∷ []) (0 ∷ 12 ∷ [])
     -- Permutation 2 0 3 1, owners free, opened so: slice 2, count 1; the start place is then 1.
     ∷ row (claims (0 ∷ 0 ∷ 0 ∷ 0 ∷ []) (2 ∷ 0 ∷ 3 ∷ 1 ∷ [])) (2 ∷ 0 ∷ 1 ∷ 1 ∷ [])
     -- With 2, 0, 3 held, opened so: slice 1, count 1. All held: 22, count 0 (document 02, P2). The start place is P after both.
@@ -133,6 +163,42 @@ cases =
     ∷ row (standing 0 0 0 (startingAt 5 (session stickA 0)) 0 ∷ []) (20 ∷ [])
     ∷ row (closedSession (startingAt 3 (session stickA 0)) .start ∷ startingAt 0 (startingAt 3 (session stickA 0)) .start ∷ noSession .start ∷ [])
     (3 ∷ 0 ∷ 0 ∷ [])
+    -- N of a volume up to k is 1 to P, else 20, also where every length is wrong; above k nothing is said of it (document 02, P4).
+    ∷ row
+    (inSession (counting 1 1 1) ∷ inSession (counting 1 1 4) ∷ inSession (counting 1 1 0) ∷ inSession (counting 1 1 5) ∷ inSession (counting 1 0 0) ∷ [])
+    (0 ∷ 0 ∷ 20 ∷ 20 ∷ 20 ∷ [])
+    ∷ row (inSession (counting 1 2 0) ∷ inSession (counting 1 2 5) ∷ standing 0 0 0 (counting 0 0 5) 0 ∷ []) (0 ∷ 0 ∷ 20 ∷ [])
+    -- A, N 3 of volume 1: its address 11 is served, 12 is 12; of volume 0 12 and 15 are served, of volume 2 15 is and 16 is 12.
+    ∷ row (atAddress (counting 2 1 3) 1 11 ∷ atAddress (counting 2 1 3) 1 12 ∷ []) (0 ∷ 12 ∷ [])
+    ∷ row
+    (atAddress (counting 2 1 3) 0 12 ∷ atAddress (counting 2 1 3) 0 15 ∷ atAddress (counting 2 1 3) 2 15 ∷ atAddress (counting 2 1 3) 2 16 ∷ [])
+    (0 ∷ 0 ∷ 0 ∷ 12 ∷ [])
+    -- A header with N 1 and one with N 4 open; N 0, N 5 and another S are 8 (document 02, P4).
+    ∷ row (header 1 4 ∷ header 4 4 ∷ header 0 4 ∷ header 5 4 ∷ header 4 3 ∷ header 4 5 ∷ []) (0 ∷ 0 ∷ 1 ∷ 1 ∷ 1 ∷ 1 ∷ [])
+    -- A, N 4 and 2 of volumes 0 and 1: a slice at entry 1 of volume 1 is loaded, at entry 2 it is 9, and so at 3; the mark is loaded
+    -- there. At entry 3 of volume 0 it is loaded; the number 4, which is no slice, is 9 at entry 0.
+    ∷ row
+    (settles (4 ∷ 2 ∷ []) (replicate 4 0) 2 5 ∷ settles (4 ∷ 2 ∷ []) (replicate 4 0) 2 6 ∷ settles (4 ∷ 2 ∷ []) (replicate 4 0) 2 7
+    ∷ settles (4 ∷ 2 ∷ []) (replicate 4 0) unmapped 7 ∷ settles (4 ∷ 2 ∷ []) (replicate 4 0) 2 3 ∷ settles (4 ∷ 2 ∷ []) (replicate 4 0) 4 0 ∷ [])
+    (0 ∷ 9 ∷ 9 ∷ 0 ∷ 0 ∷ 9 ∷ [])
+    -- A slice that is held is 10; at or past N it is 9 before that.
+    ∷ row (settles (4 ∷ 2 ∷ []) (replicate 4 1) 2 5 ∷ settles (4 ∷ 2 ∷ []) (replicate 4 1) 2 6 ∷ []) (10 ∷ 9 ∷ [])
+    -- The same at a close: entry 2 of volume 1 with N 3 and 2, entry 3 of volume 0; above k nothing is said of an entry.
+    ∷ row
+    (closingWith (counting 1 1 3) 6 ∷ closingWith (counting 1 1 2) 6 ∷ closingWith (counting 1 1 2) 3 ∷ closingWith (counting 0 1 2) 6 ∷ [])
+    (0 ∷ 9 ∷ 0 ∷ 0 ∷ [])
+    -- A close leaves the counts; a refused opening has 15 zeros.
+    ∷ row (countIn (closedSession (counting 1 1 3) .counts) 1 ∷ countIn (startingAt 2 (counting 1 1 3) .counts) 1 ∷ []) (3 ∷ 3 ∷ [])
+    ∷ row (noSession .counts) (replicate 15 0)
+    -- A: two keys with counts 1 and 4 are served; with a count of 0 or 5, or with one count or three, 1, before 2 and 23; without key and
+    -- count 23 (document 02, P4).
+    ∷ row
+    (formatsWith 52224 2 (1 ∷ 4 ∷ []) ∷ formatsWith 52224 2 (1 ∷ 0 ∷ []) ∷ formatsWith 52224 2 (5 ∷ 4 ∷ []) ∷ formatsWith 52224 2 (1 ∷ [])
+    ∷ formatsWith 52224 2 (1 ∷ 4 ∷ 4 ∷ []) ∷ [])
+    (0 ∷ 1 ∷ 1 ∷ 1 ∷ 1 ∷ [])
+    ∷ row
+    (formatsWith 52223 2 (1 ∷ []) ∷ formatsWith 52224 0 (1 ∷ []) ∷ formatsWith 52223 16 (replicate 16 5) ∷ formatsWith 52223 0 [] ∷ formatsWith 52224 0 [] ∷ [])
+    (1 ∷ 1 ∷ 1 ∷ 2 ∷ 23 ∷ [])
     -- k 14 is allowed, 15 is 20; so is a geometry that is not allowed, and a closed session.
     ∷ row (inSession (session stickA 14) ∷ inSession (session stickA 15) ∷ []) (0 ∷ 20 ∷ [])
     ∷ row (inSession (session (sized 1024 65 4) 0) ∷ inSession (closedSession (session stickA 0)) ∷ []) (20 ∷ 20 ∷ [])

@@ -1,16 +1,16 @@
--- Close (document 01, "Close"; document 02, P2). It looks at no byte of the device, only at its length. Assumes nothing.
+-- Close (document 01, "Close"; document 02, P2 and P4). It looks at no byte of the device, only at its length. Assumes nothing.
 use Prim.Native.Nat.{ℕ, zero, suc, _+_, _*_}
 use mathlib.Core.List.{List, [], _∷_, _++_}
-use mathlib.Core.Bool.{Bool, false, _||_}
+use mathlib.Core.Bool.{Bool, false}
 use lib.ListN.{length, getD}
 use lib.Dec.{ltb}
 use Rattle.refusals.specs.Numbers.{refuse}
 use Rattle.ctr.specs.CounterMode.{ctr}
 use Rattle.model.specs.declared.Geometry.{Geometry}
 use Rattle.model.specs.declared.Session.{Session}
-use Rattle.model.specs.Parts.{choose, part, joined, Patch}
+use Rattle.model.specs.Parts.{choose, anyBelow, part, joined, Patch}
 use Rattle.model.specs.Geometry.{perBlock, mapBlocks, mapStart, fourBytes}
-use Rattle.model.specs.Session.{Held, Outcome, geometry, keyOf, entry, badEntry, unmapped, standing, short, unless, idle, noKeys}
+use Rattle.model.specs.Session.{Held, Outcome, geometry, keyOf, entry, badEntryAt, unmapped, standing, short, unless, idle, noKeys}
 use Rattle.model.specs.Opening.{noMaps, noOwners}
 
 -- ---- map blocks
@@ -41,10 +41,9 @@ mapPatches h tape (suc n) =
 
 -- ---- the call
 
--- Whether one of the first n entries is neither the mark nor below P.
-unfoldable pub anyBad : (p : ℕ) → (maps : List ℕ) → (n : ℕ) → Bool
-anyBad p maps zero = false
-anyBad p maps (suc n) = anyBad p maps n || badEntry p (getD maps n 0)
+-- Whether one of the first n entries is neither the mark nor a slice that may stand there.
+unfoldable pub anyBad : (p : ℕ) → (counts maps : List ℕ) → (n : ℕ) → Bool
+anyBad p counts maps n = anyBelow (λ m. badEntryAt p counts m (getD maps m 0)) n
 
 -- The tape bytes that a close needs.
 abbrev pub closeNeed : Session → ℕ
@@ -54,7 +53,7 @@ closeNeed s = 16 * mapBlocks (s .geometry) * (s .k + 1)
 unfoldable pub closeRefusal : (device : ℕ) → Held → (tape : ℕ) → ℕ
 closeRefusal device h tape =
     standing device (length (h .maps)) (length (h .owners)) (h .session)
-    (refuse (anyBad (geometry h .p) (h .maps) ((h .session .k + 1) * geometry h .p)) 9
+    (refuse (anyBad (geometry h .p) (h .session .counts) (h .maps) ((h .session .k + 1) * geometry h .p)) 9
     (refuse (short tape (h .position) (closeNeed (h .session))) 21
     0))
 
@@ -63,9 +62,10 @@ pub data CloseResult : Type 0 where
   Closed : CloseResult
   Refused : ℕ → CloseResult
 
--- The session after a close: its geometry, k and, by document 02 (P2), its start place stay.
+-- The session after a close: its geometry, k and, by document 02 (P2 and P4), its start place and counts stay.
 abbrev pub closedSession : Session → Session
-closedSession s = record { geometry = s .geometry; k = s .k; keys = noKeys; opened = false; start = s .start }
+closedSession s =
+    record { geometry = s .geometry; k = s .k; keys = noKeys; opened = false; start = s .start; counts = s .counts }
 
 -- The maps of volumes 0 to k on the device, and nothing held.
 abbrev pub closed : Held → (tape : List ℕ) → Outcome CloseResult

@@ -1,5 +1,6 @@
--- The facts behind the refusals, in the words of document 01 ("Refused for ..") and document 02 (P2, the start place). Assumes nothing.
-use Prim.Native.Nat.{ℕ, _+_, _*_, _≤_, _<_}
+-- The facts behind the refusals, in the words of document 01 ("Refused for ..") and document 02 (P2, the start place; P4, the counts).
+-- Assumes nothing.
+use Prim.Native.Nat.{ℕ, _+_, _*_, _/_, _%_, _≤_, _<_}
 use mathlib.Core.Path.{_≡_}
 use mathlib.Core.Logic.{_⊎_}
 use mathlib.Core.Bool.{true}
@@ -7,15 +8,28 @@ use mathlib.Core.List.{List}
 use lib.ListN.{length, getD}
 use Rattle.model.specs.declared.Geometry.{Geometry}
 use Rattle.model.specs.declared.Session.{Session}
-use Rattle.model.specs.Geometry.{Allowed}
+use Rattle.model.specs.Geometry.{Allowed, countIn}
 use Rattle.model.specs.Session.{unmapped}
 
--- A session that is open, with a geometry, a k and a start place that are allowed (20; document 02, P2).
+-- N is 1 to P, and so is each of the first n counts (8, 20, at formatting 1; document 02, P4).
+abbrev pub CountFits : (p n : ℕ) → Type 0
+CountFits p n = (1 ≤ n) × (n ≤ p)
+
+abbrev pub CountsFit : (p : ℕ) → (counts : List ℕ) → (n : ℕ) → Type 0
+CountsFit p counts n = (i : ℕ) → i < n → CountFits p (countIn counts i)
+
+-- One count for each of n volumes, each 1 to P (1 at formatting; document 02, P4).
+abbrev pub Counted : (p n : ℕ) → (counts : List ℕ) → Type 0
+Counted p n counts = (length counts ≡ n) × CountsFit p counts n
+
+-- A session that is open, with a geometry, a k, a start place and an N of each volume 0 to k that are allowed (20; document 02, P2 and
+-- P4).
 pub record Usable (s : Session) : Type 0 where
   pub opened : s .opened ≡ true
   pub allowed : Allowed (s .geometry)
   pub top : s .k ≤ 14
   pub place : s .start ≤ s .geometry .p
+  pub counted : CountsFit (s .geometry .p) (s .counts) (s .k + 1)
 
 -- The tables have their lengths (4).
 abbrev pub TablesFit : Geometry → (maps owners : ℕ) → Type 0
@@ -24,6 +38,14 @@ TablesFit g maps owners = (maps ≡ 15 * g .p) × (owners ≡ g .p)
 -- An entry is the mark or a slice (9).
 abbrev pub EntryFits : Geometry → ℕ → Type 0
 EntryFits g x = (x ≡ unmapped) ⊎ (x < g .p)
+
+-- Index n of the map table, which is logical slice n % P of volume n / P, stands below the volume's N (document 02, P4).
+abbrev pub BelowCount : (p : ℕ) → (counts : List ℕ) → (n : ℕ) → Type 0
+BelowCount p counts n = n % p < countIn counts (n / p)
+
+-- The entry there is the mark, or a slice that stands below N (9 at opening and close; document 02, P4).
+abbrev pub EntryFitsAt : (p : ℕ) → (counts : List ℕ) → (n x : ℕ) → Type 0
+EntryFitsAt p counts n x = (x ≡ unmapped) ⊎ ((x < p) × BelowCount p counts n)
 
 -- A tape has n bytes from a position on (21).
 abbrev pub Enough : (tape position n : ℕ) → Type 0

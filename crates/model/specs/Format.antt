@@ -1,4 +1,4 @@
--- Formatting (document 02, P1). It looks at no byte of the device, only at its length: what the device held before has no
+-- Formatting (document 02, P1 and P4). It looks at no byte of the device, only at its length: what the device held before has no
 -- influence on what it holds afterwards. Assumes nothing.
 use Prim.Native.Nat.{ℕ, zero, suc, _+_, _*_}
 use mathlib.Core.List.{List, [], _∷_, _++_}
@@ -9,7 +9,7 @@ use Rattle.refusals.specs.Numbers.{refuse}
 use Rattle.gcm.specs.Gcm.{gcmText, gcmTag}
 use Rattle.model.specs.declared.Geometry.{Geometry}
 use Rattle.model.specs.Parts.{part, Patch, patched}
-use Rattle.model.specs.Geometry.{badGeometry, deviceLength, mapBlocks, fourBytes, cellStart, headerStart, mapStart}
+use Rattle.model.specs.Geometry.{badGeometry, countIn, anyBadCount, deviceLength, mapBlocks, fourBytes, cellStart, headerStart, mapStart}
 use Rattle.model.specs.Session.{keyIn, short, unless}
 use Rattle.model.specs.Opening.{Cell, At, NoCell, firstCell, noMaps}
 use Rattle.model.specs.Close.{mapBytes}
@@ -56,13 +56,13 @@ abbrev pub madeBelow : Geometry → (drawn : List ℕ) → (i : ℕ) → List �
 madeBelow g drawn zero = replicate 32 0
 madeBelow g drawn (suc i) = drawnVmk g drawn i
 
--- The text of header i: the VEK, the VMK below, P, S.
-abbrev pub madeText : Geometry → (drawn : List ℕ) → (i : ℕ) → List ℕ
-madeText g drawn i = drawnVek g drawn i ++ (madeBelow g drawn i ++ (fourBytes (g .p) ++ fourBytes (g .s)))
+-- The text of header i: the VEK, the VMK below, the volume's N (document 02, P4), S.
+abbrev pub madeText : Geometry → (counts drawn : List ℕ) → (i : ℕ) → List ℕ
+madeText g counts drawn i = drawnVek g drawn i ++ (madeBelow g drawn i ++ (fourBytes (countIn counts i) ++ fourBytes (g .s)))
 
 -- Header i: its text under VMK i.
-abbrev pub madeHeader : Geometry → (n : ℕ) → (drawn : List ℕ) → (i : ℕ) → List ℕ
-madeHeader g n drawn i = sealed (drawnVmk g drawn i) (headerIv g n drawn i) (16 + i) (madeText g drawn i)
+abbrev pub madeHeader : Geometry → (n : ℕ) → (counts drawn : List ℕ) → (i : ℕ) → List ℕ
+madeHeader g n counts drawn i = sealed (drawnVmk g drawn i) (headerIv g n drawn i) (16 + i) (madeText g counts drawn i)
 
 -- The map blocks of volume i: those of a map that holds nothing.
 abbrev pub madeMap : Geometry → (n : ℕ) → (drawn : List ℕ) → (i : ℕ) → List ℕ
@@ -74,17 +74,18 @@ cellPatches g n keys drawn zero = []
 cellPatches g n keys drawn (suc c) =
     cellPatches g n keys drawn c ++ record { at = cellStart c; bytes = madeCell g n keys drawn c } ∷ []
 
-unfoldable pub headerPatches : Geometry → (n : ℕ) → (drawn : List ℕ) → (v : ℕ) → List Patch
-headerPatches g n drawn zero = []
-headerPatches g n drawn (suc v) =
-    headerPatches g n drawn v
-    ++ record { at = headerStart g v; bytes = madeHeader g n drawn v }
+unfoldable pub headerPatches : Geometry → (n : ℕ) → (counts drawn : List ℕ) → (v : ℕ) → List Patch
+headerPatches g n counts drawn zero = []
+headerPatches g n counts drawn (suc v) =
+    headerPatches g n counts drawn v
+    ++ record { at = headerStart g v; bytes = madeHeader g n counts drawn v }
     ∷ record { at = mapStart g v; bytes = madeMap g n drawn v }
     ∷ []
 
 -- The device: filled from the tape, then the cells from 0 up, then the headers with their maps.
-unfoldable pub formatted : Geometry → (n : ℕ) → (keys drawn : List ℕ) → List ℕ
-formatted g n keys drawn = patched (cellPatches g n keys drawn n ++ headerPatches g n drawn n) (part 0 (deviceLength g) drawn)
+unfoldable pub formatted : Geometry → (n : ℕ) → (keys counts drawn : List ℕ) → List ℕ
+formatted g n keys counts drawn =
+    patched (cellPatches g n keys drawn n ++ headerPatches g n counts drawn n) (part 0 (deviceLength g) drawn)
 
 -- ---- the call
 
@@ -98,16 +99,19 @@ unfoldable pub lowerOpens : (keys : List ℕ) → (cell : ℕ → List ℕ) → 
 lowerOpens keys cell zero = false
 lowerOpens keys cell (suc i) = lowerOpens keys cell i || found (firstCell (keyIn keys i) cell i 0)
 
--- 1, 2, 23, 3, 21, from the lengths of device, keys and tape, then the rest.
-unfoldable pub formatRefusal : (device : ℕ) → Geometry → (n keys tape position rest : ℕ) → ℕ
-formatRefusal device g n keys tape position rest =
+-- 1 (other than one count a key, or one that is not allowed, too: document 02, P4), 2, 23, 3, 21, from the counts and the lengths of
+-- device, keys and tape, then the rest.
+unfoldable pub formatRefusal : (device : ℕ) → Geometry → (n keys : ℕ) → (counts : List ℕ) → (tape position rest : ℕ) → ℕ
+formatRefusal device g n keys counts tape position rest =
     badGeometry 1 g
+    (refuse (not (eqb (length counts) n)) 1
+    (refuse (anyBadCount (g .p) counts n) 1
     (refuse (not (eqb device (deviceLength g))) 2
     (refuse (ltb n 1) 23
     (refuse (ltb 15 n) 23
     (refuse (not (eqb keys (32 * n))) 3
     (refuse (short tape position (formatNeed g n)) 21
-    rest)))))
+    rest)))))))
 
 -- The answer of a formatting: the device and the tape position afterwards, or the refusal.
 pub data FormatResult : Type 0 where
@@ -118,8 +122,10 @@ pub data FormatResult : Type 0 where
 abbrev pub lowerRefusal : Geometry → (n : ℕ) → (keys drawn : List ℕ) → ℕ
 lowerRefusal g n keys drawn = refuse (lowerOpens keys (madeCell g n keys drawn) n) 24 0
 
--- Formatting of a device of so many bytes with n keys, which stand end to end.
-unfoldable pub formatModel : (device : ℕ) → Geometry → (n : ℕ) → (keys tape : List ℕ) → (position : ℕ) → FormatResult
-formatModel device g n keys tape position =
-    unless (formatRefusal device g n (length keys) (length tape) position (lowerRefusal g n keys (part position (formatNeed g n) tape))) Refused
-    (Formatted (formatted g n keys (part position (formatNeed g n) tape)) (position + formatNeed g n))
+-- Formatting of a device of so many bytes with n keys, which stand end to end, and a count of slices for each (document 02, P4).
+unfoldable pub formatModel : (device : ℕ) → Geometry → (n : ℕ) → (keys counts tape : List ℕ) → (position : ℕ) → FormatResult
+formatModel device g n keys counts tape position =
+    unless
+    (formatRefusal device g n (length keys) counts (length tape) position (lowerRefusal g n keys (part position (formatNeed g n) tape)))
+    Refused
+    (Formatted (formatted g n keys counts (part position (formatNeed g n) tape)) (position + formatNeed g n))

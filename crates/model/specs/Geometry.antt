@@ -2,13 +2,14 @@
 use Prim.Native.Nat.{ℕ, _+_, _-_, _*_, _/_, _≤_}
 use mathlib.Core.Path.{_≡_}
 use mathlib.Core.Logic.{_⊎_}
-use mathlib.Core.Bool.{not, _||_}
+use mathlib.Core.Bool.{Bool, not, _||_}
 use mathlib.Core.List.{List}
 use lib.Dec.{ltb, eqb}
+use lib.ListN.{getD}
 use Rattle.refusals.specs.Numbers.{refuse}
 use Rattle.block.specs.Bytes.{number, bigEndian}
 use Rattle.model.specs.declared.Geometry.{Geometry}
-use Rattle.model.specs.Parts.{part}
+use Rattle.model.specs.Parts.{part, anyBelow}
 
 -- B is 1,024 or 4,096, S is 1 to B/16 and P is 1 to 4,096, else the refusal (1 at opening, 20 of a session).
 unfoldable pub badGeometry : (refusal : ℕ) → Geometry → (rest : ℕ) → ℕ
@@ -27,6 +28,22 @@ pub record Allowed (g : Geometry) : Type 0 where
   pub slice-most : g .s ≤ g .b / 16
   pub slices-least : 1 ≤ g .p
   pub slices-most : g .p ≤ 4096
+
+-- ---- the logical slices of a volume (document 02, P4)
+
+-- N, the count of logical slices of volume i, among counts from volume 0 up.
+abbrev pub countIn : (counts : List ℕ) → (i : ℕ) → ℕ
+countIn counts i = getD counts i 0
+
+-- A count that is not 1 to P.
+abbrev pub badCount : (p n : ℕ) → Bool
+badCount p n = ltb n 1 || ltb p n
+
+-- Whether one of the first n counts is not allowed.
+unfoldable pub anyBadCount : (p : ℕ) → (counts : List ℕ) → (n : ℕ) → Bool
+anyBadCount p counts n = anyBelow (λ i. badCount p (countIn counts i)) n
+
+-- ---- lengths
 
 -- The entries in a map block.
 abbrev pub perBlock : Geometry → ℕ

@@ -5,6 +5,8 @@
 --   mark FFFFFFFF    `unmapped`, the entry of a logical slice that has no slice
 --   places looked at probes, the places of the permutation that a claim passed or took, counted from the start place
 --   start place      `Session.start`: the place of the permutation where a claim begins to look
+--   N                the count of logical slices of a volume: `countOf` a session, `countIn` counts from volume 0 up, `sliceCount` of a
+--                    header's text; not the index n
 --   B, S, P, m, H    `Geometry` b, s, p; `mapBlocks`, `headerBlocks`
 --   slice ψ          a physical slice, by its number; logical slice σ of a volume is an index into its row of the map table
 --   entry            what the map table or a header's map holds for a logical slice: a slice's number or the mark. `entry` is that of

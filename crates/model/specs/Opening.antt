@@ -1,4 +1,4 @@
--- Opening (document 01, "Opening"; document 02, P2): the device is seen through its key cells and headers alone. Assumes nothing.
+-- Opening (document 01, "Opening"; document 02, P2 and P4): the device is seen through its key cells and headers alone. Assumes nothing.
 use Prim.Native.Nat.{ℕ, zero, suc, _+_, _-_, _*_, _/_, _%_}
 use mathlib.Core.List.{List, [], _∷_, _++_}
 use mathlib.Core.Bool.{Bool, true, false, not, _||_}
@@ -10,8 +10,8 @@ use Rattle.gcm.specs.Gcm.{Opened, Text, WrongTag, gcmOpen}
 use Rattle.model.specs.declared.Geometry.{Geometry}
 use Rattle.model.specs.declared.Session.{Session}
 use Rattle.model.specs.Parts.{choose, part}
-use Rattle.model.specs.Geometry.{badGeometry, deviceLength, perBlock, numberAt, cellOf, headerOf}
-use Rattle.model.specs.Session.{unmapped, unless, keyIn, noKeys}
+use Rattle.model.specs.Geometry.{badGeometry, badCount, deviceLength, perBlock, numberAt, cellOf, headerOf}
+use Rattle.model.specs.Session.{unmapped, placed, unless, keyIn, noKeys, noCounts}
 use Rattle.model.specs.Search.{firstFree, startPlace}
 
 -- ---- the lowest cell that opens
@@ -41,28 +41,37 @@ firstCell key cell (suc left) i = orNext (openCell key i (cell i)) i (firstCell 
 abbrev pub openHeader : (vmk : List ℕ) → (i : ℕ) → (header : List ℕ) → Opened
 openHeader vmk i header = gcmOpen vmk (part 0 12 header) ((16 + i) ∷ []) (part 12 72 header) (part 84 16 header)
 
--- The 72 bytes of a header: the VEK, the VMK of the volume below, P, S.
+-- The 72 bytes of a header: the VEK, the VMK of the volume below, N (document 02, P4), S.
 abbrev pub vekOf : List ℕ → List ℕ
 vekOf text = part 0 32 text
 
 abbrev pub vmkBelow : List ℕ → List ℕ
 vmkBelow text = part 32 32 text
 
--- The VEKs of volumes 0 to k end to end, or the refusal 7 or 8.
+abbrev pub sliceCount : List ℕ → ℕ
+sliceCount text = numberAt 64 text
+
+-- 8: N is 0 or above P, or S differs (document 02, P4).
+abbrev pub badHeader : Geometry → (text : List ℕ) → Bool
+badHeader g text = badCount (g .p) (sliceCount text) || not (eqb (numberAt 68 text) (g .s))
+
+-- The VEKs of volumes 0 to k end to end and their counts, or the refusal 7 or 8.
 pub data Chain : Type 0 where
-  Keys : List ℕ → Chain
+  Keys : (veks counts : List ℕ) → Chain
   Broken : ℕ → Chain
 
--- One header: 7 where its tag is wrong, 8 where its P or S differs, else what follows from its text.
+-- One header: 7 where its tag is wrong, 8 where its N or S is, else what follows from its text.
 abbrev pub link : Geometry → Opened → (List ℕ → Chain) → Chain
 link g WrongTag next = Broken 7
-link g (Text text) next = choose (not (eqb (numberAt 64 text) (g .p)) || not (eqb (numberAt 68 text) (g .s))) (Broken 8) (next text)
+link g (Text text) next = choose (badHeader g text) (Broken 8) (next text)
 
--- Header n and those below it, where the VEKs of the volumes above n are known.
-unfoldable pub chain : Geometry → (header : ℕ → List ℕ) → (n : ℕ) → (vmk above : List ℕ) → Chain
-chain g header zero vmk above = link g (openHeader vmk zero (header zero)) (λ text. Keys (vekOf text ++ above))
-chain g header (suc n) vmk above =
-    link g (openHeader vmk (suc n) (header (suc n))) (λ text. chain g header n (vmkBelow text) (vekOf text ++ above))
+-- Header n and those below it, where the VEKs and the counts of the volumes above n are known.
+unfoldable pub chain : Geometry → (header : ℕ → List ℕ) → (n : ℕ) → (vmk veks counts : List ℕ) → Chain
+chain g header zero vmk veks counts =
+    link g (openHeader vmk zero (header zero)) (λ text. Keys (vekOf text ++ veks) (sliceCount text ∷ counts))
+chain g header (suc n) vmk veks counts =
+    link g (openHeader vmk (suc n) (header (suc n)))
+    (λ text. chain g header n (vmkBelow text) (vekOf text ++ veks) (sliceCount text ∷ counts))
 
 -- ---- the maps
 
@@ -81,18 +90,19 @@ pub data Loaded : Type 0 where
   Tables : (maps owners : List ℕ) → Loaded
   Spoilt : ℕ → Loaded
 
--- Entry x at index n into the tables so far: the mark changes nothing, 9 where it is at or above P, 10 where it has an owner.
-abbrev pub settle : (p x n : ℕ) → (maps owners : List ℕ) → (List ℕ → List ℕ → Loaded) → Loaded
-settle p x n maps owners next =
+-- Entry x at index n into the tables so far: the mark changes nothing, 9 where it is at or above P or stands at or past the volume's N
+-- (document 02, P4), 10 where it has an owner.
+abbrev pub settle : (p : ℕ) → (counts : List ℕ) → (x n : ℕ) → (maps owners : List ℕ) → (List ℕ → List ℕ → Loaded) → Loaded
+settle p counts x n maps owners next =
     choose (eqb x unmapped) (next maps owners)
-    (choose (ltb x p)
+    (choose (placed p counts n x)
     (choose (eqb (getD owners x 0) 0) (next (set maps n x) (set owners x (n / p + 1))) (Spoilt 10))
     (Spoilt 9))
 
 -- The entries from index n on, left of them, into the tables so far.
-unfoldable pub load : (p : ℕ) → (entries : ℕ → ℕ) → (left n : ℕ) → (maps owners : List ℕ) → Loaded
-load p entries zero n maps owners = Tables maps owners
-load p entries (suc left) n maps owners = settle p (entries n) n maps owners (load p entries left (suc n))
+unfoldable pub load : (p : ℕ) → (counts : List ℕ) → (entries : ℕ → ℕ) → (left n : ℕ) → (maps owners : List ℕ) → Loaded
+load p counts entries zero n maps owners = Tables maps owners
+load p counts entries (suc left) n maps owners = settle p counts (entries n) n maps owners (load p counts entries left (suc n))
 
 -- Tables that hold nothing: 15 × P marks, and P owners 0.
 abbrev pub noMaps : Geometry → List ℕ
@@ -102,8 +112,8 @@ abbrev pub noOwners : Geometry → List ℕ
 noOwners g = replicate (g .p) 0
 
 -- The maps of volumes 0 to k, entry by entry.
-abbrev pub loadMaps : Geometry → (header : ℕ → List ℕ) → (keys : List ℕ) → (k : ℕ) → Loaded
-loadMaps g header keys k = load (g .p) (mapEntries g header keys) ((k + 1) * g .p) 0 (noMaps g) (noOwners g)
+abbrev pub loadMaps : Geometry → (header : ℕ → List ℕ) → (keys counts : List ℕ) → (k : ℕ) → Loaded
+loadMaps g header keys counts k = load (g .p) counts (mapEntries g header keys) ((k + 1) * g .p) 0 (noMaps g) (noOwners g)
 
 -- ---- the call
 
@@ -144,7 +154,7 @@ pub record OpenOutcome : Type 0 where
 
 -- The session of a refused opening: closed, its numbers and keys 0.
 abbrev pub noSession : Session
-noSession = record { geometry = record { b = 0; s = 0; p = 0 }; k = 0; keys = noKeys; opened = false; start = 0 }
+noSession = record { geometry = record { b = 0; s = 0; p = 0 }; k = 0; keys = noKeys; opened = false; start = 0; counts = noCounts }
 
 -- Refused by 1 to 5: the tables stay.
 abbrev pub untouched : (maps owners : List ℕ) → ℕ → OpenOutcome
@@ -154,30 +164,42 @@ untouched maps owners n = record { answer = NotOpened n; maps = maps; owners = o
 abbrev pub wiped : Geometry → ℕ → OpenOutcome
 wiped g n = record { answer = NotOpened n; maps = noMaps g; owners = noOwners g; session = noSession }
 
--- 15 data keys, 0 above k.
+-- 15 data keys and 15 counts, 0 above k.
 abbrev pub allKeys : (keys : List ℕ) → (k : ℕ) → List ℕ
 allKeys keys k = keys ++ replicate (32 * (14 - k)) 0
 
--- The session of a served opening: its start place is the first free place, or P (document 02, P2).
-abbrev pub openSession : Geometry → (k : ℕ) → (keys owners perm : List ℕ) → Session
-openSession g k keys owners perm =
-    record { geometry = g; k = k; keys = keys; opened = true; start = startPlace (g .p) (firstFree owners (g .p) 0 perm) }
+abbrev pub allCounts : (counts : List ℕ) → (k : ℕ) → List ℕ
+allCounts counts k = counts ++ replicate (14 - k) 0
+
+-- The session of a served opening: its start place is the first free place, or P (document 02, P2), its counts are those of the headers
+-- (document 02, P4).
+abbrev pub openSession : Geometry → (k : ℕ) → (keys counts owners perm : List ℕ) → Session
+openSession g k keys counts owners perm =
+    record {
+      geometry = g;
+      k = k;
+      keys = keys;
+      opened = true;
+      start = startPlace (g .p) (firstFree owners (g .p) 0 perm);
+      counts = counts;
+    }
 
 -- Served, with the tables that were loaded, or 9 or 10.
-unfoldable pub withTables : Geometry → (perm : List ℕ) → (k : ℕ) → (keys : List ℕ) → Loaded → OpenOutcome
-withTables g perm k keys (Spoilt n) = wiped g n
-withTables g perm k keys (Tables maps owners) =
-    record { answer = OpenTo k; maps = maps; owners = owners; session = openSession g k keys owners perm }
+unfoldable pub withTables : Geometry → (perm : List ℕ) → (k : ℕ) → (keys counts : List ℕ) → Loaded → OpenOutcome
+withTables g perm k keys counts (Spoilt n) = wiped g n
+withTables g perm k keys counts (Tables maps owners) =
+    record { answer = OpenTo k; maps = maps; owners = owners; session = openSession g k keys counts owners perm }
 
--- From the data keys, or 7 or 8.
+-- From the data keys and the counts, or 7 or 8.
 unfoldable pub withKeys : Geometry → (perm : List ℕ) → (header : ℕ → List ℕ) → (k : ℕ) → Chain → OpenOutcome
 withKeys g perm header k (Broken n) = wiped g n
-withKeys g perm header k (Keys keys) = withTables g perm k (allKeys keys k) (loadMaps g header (allKeys keys k) k)
+withKeys g perm header k (Keys veks counts) =
+    withTables g perm k (allKeys veks k) (allCounts counts k) (loadMaps g header (allKeys veks k) (allCounts counts k) k)
 
 -- From the lowest cell that opens, or 6.
 unfoldable pub withCell : Geometry → (perm : List ℕ) → (header : ℕ → List ℕ) → Cell → OpenOutcome
 withCell g perm header NoCell = wiped g 6
-withCell g perm header (At k vmk) = withKeys g perm header k (chain g header k vmk [])
+withCell g perm header (At k vmk) = withKeys g perm header k (chain g header k vmk [] [])
 
 -- Opening.
 unfoldable pub openModel : (device : List ℕ) → Geometry → (key maps owners perm : List ℕ) → OpenOutcome

@@ -1,6 +1,7 @@
--- Parts of a list, a list with some of its elements overwritten, and the patches of a call. Assumes nothing.
+-- A test of each number below a bound, parts of a list, a list with some of its elements overwritten, and the patches of a call.
+-- Assumes nothing.
 use Prim.Native.Nat.{ℕ, zero, suc}
-use mathlib.Core.Bool.{Bool, true, false}
+use mathlib.Core.Bool.{Bool, true, false, _||_}
 use mathlib.Core.List.{List, [], _∷_, _++_}
 use lib.ListN.{take, drop}
 
@@ -8,6 +9,11 @@ use lib.ListN.{take, drop}
 abbrev pub choose {ℓ} : {A : Type ℓ} → Bool → A → A → A
 choose true a b = a
 choose false a b = b
+
+-- Whether f holds of a number below n.
+unfoldable pub anyBelow : (f : ℕ → Bool) → (n : ℕ) → Bool
+anyBelow f zero = false
+anyBelow f (suc n) = anyBelow f n || f n
 
 module _ {ℓ} {A : Type ℓ} where
   -- The n elements from place at on.

@@ -1,15 +1,15 @@
 -- The session, the lent tables and the tape position, and the refusals that every request shares (document 01,
--- "Opening, requests, closing" and "Refused for .."). Assumes nothing.
+-- "Opening, requests, closing" and "Refused for .."; document 02, P2 and P4). Assumes nothing.
 use Prim.Native.Nat.{ℕ, zero, suc, _+_, _-_, _*_, _/_, _%_}
 use mathlib.Core.List.{List, []}
-use mathlib.Core.Bool.{Bool, not, _||_}
+use mathlib.Core.Bool.{Bool, not, _||_, _&&_}
 use lib.ListN.{getD, replicate}
 use lib.Dec.{ltb, leb, eqb}
 use Rattle.refusals.specs.Numbers.{refuse}
 use Rattle.model.specs.declared.Geometry.{Geometry}
 use Rattle.model.specs.declared.Session.{Session}
 use Rattle.model.specs.Parts.{part, Patch}
-use Rattle.model.specs.Geometry.{badGeometry, deviceLength}
+use Rattle.model.specs.Geometry.{badGeometry, countIn, anyBadCount, deviceLength}
 
 -- The mark FFFFFFFF of an unmapped logical slice.
 abbrev pub unmapped : ℕ
@@ -38,11 +38,16 @@ keyOf s i = keyIn (s .keys) i
 
 -- A session with another start place (document 02, P2).
 abbrev pub startingAt : (start : ℕ) → Session → Session
-startingAt start s = record { geometry = s .geometry; k = s .k; keys = s .keys; opened = s .opened; start = start }
+startingAt start s =
+    record { geometry = s .geometry; k = s .k; keys = s .keys; opened = s .opened; start = start; counts = s .counts }
 
--- The blocks of volume i.
-abbrev pub blockCount : Geometry → ℕ → ℕ
-blockCount g i = g .p * g .s
+-- N, the logical slices of volume i (document 02, P4).
+abbrev pub countOf : Session → ℕ → ℕ
+countOf s i = countIn (s .counts) i
+
+-- The blocks of volume i: N × S (document 02, P4).
+abbrev pub blockCount : Session → ℕ → ℕ
+blockCount s i = countOf s i * s .geometry .s
 
 -- Where the map table has the entry of logical slice σ of volume i.
 abbrev pub slot : Geometry → ℕ → ℕ → ℕ
@@ -67,25 +72,37 @@ entryOf maps g i a = entry maps g i (sliceOf g a)
 abbrev pub badEntry : ℕ → ℕ → Bool
 badEntry p x = not (eqb x unmapped || ltb x p)
 
+-- The entry at index n of a map table, which is that of logical slice n % P of volume n / P: a slice stands there where it is below P
+-- and the logical slice is below the volume's N (document 02, P4).
+abbrev pub placed : (p : ℕ) → (counts : List ℕ) → (n x : ℕ) → Bool
+placed p counts n x = ltb x p && ltb (n % p) (countIn counts (n / p))
+
+-- It is bad where it is neither the mark nor such a slice.
+abbrev pub badEntryAt : (p : ℕ) → (counts : List ℕ) → (n x : ℕ) → Bool
+badEntryAt p counts n x = not (eqb x unmapped || placed p counts n x)
+
 -- ---- refusals: the first whose condition holds, 0 for none
 
--- 20 (a start place above P too: document 02, P2), 2 and 4, from the lengths of the device and the tables.
+-- 20 (a start place above P too, and an N of volumes 0 to k that is not allowed: document 02, P2 and P4), 2 and 4, from the lengths of
+-- the device and the tables.
 unfoldable pub standing : (device maps owners : ℕ) → Session → (rest : ℕ) → ℕ
 standing device maps owners s rest =
     refuse (not (s .opened)) 20
     (badGeometry 20 (s .geometry)
     (refuse (ltb 14 (s .k)) 20
     (refuse (ltb (s .geometry .p) (s .start)) 20
+    (refuse (anyBadCount (s .geometry .p) (s .counts) (s .k + 1)) 20
     (refuse (not (eqb device (deviceLength (s .geometry)))) 2
     (refuse (not (eqb maps (15 * s .geometry .p))) 4
     (refuse (not (eqb owners (s .geometry .p))) 4
-    rest))))))
+    rest)))))))
 
--- 11, 12, 13 (of a buffer or text len bytes long) and 9 (of the asked entry alone).
+-- 11, 12 (at or above N × S), 13 (of a buffer or text len bytes long) and 9 (of the asked entry alone, whose logical slice is below N
+-- where 12 does not apply).
 unfoldable pub asked : (maps : List ℕ) → Session → (i a len : ℕ) → ℕ
 asked maps s i a len =
     refuse (ltb (s .k) i) 11
-    (refuse (leb (blockCount (s .geometry) i) a) 12
+    (refuse (leb (blockCount s i) a) 12
     (refuse (not (eqb len (s .geometry .b))) 13
     (refuse (badEntry (s .geometry .p) (entryOf maps (s .geometry) i a)) 9
     0)))
@@ -114,3 +131,7 @@ idle h a = record { answer = a; patches = []; held = h }
 -- No data key: 15 times 32 zeros.
 unfoldable pub noKeys : List ℕ
 noKeys = replicate 480 0
+
+-- No count: 15 zeros.
+abbrev pub noCounts : List ℕ
+noCounts = replicate 15 0

@@ -18,12 +18,12 @@ use Rattle.model.specs.declared.Search.the-variants.{Free, Bad, Full}
 use Rattle.model.specs.declared.OpenAnswer.the-variants as open-answer
 use Rattle.model.specs.declared.WriteAnswer.the-variants as write-answer
 use Rattle.model.specs.Parts.{choose, part, joined, patched}
-use Rattle.model.specs.Geometry.{Allowed, perBlock, mapBlocks, headerBlocks, deviceLength, numberAt, fourBytes, cellStart, cellOf}
+use Rattle.model.specs.Geometry.{Allowed, countIn, perBlock, mapBlocks, headerBlocks, deviceLength, numberAt, fourBytes, cellStart, cellOf}
 use Rattle.model.specs.Geometry.{headerStart, headerOf, mapStart, sliceStart, sliceSize, ivStart, blockStart}
-use Rattle.model.specs.Session.{Held, held, Outcome, keyIn, keyOf, slot, sliceOf, offsetOf, unmapped, noKeys}
+use Rattle.model.specs.Session.{Held, held, Outcome, keyIn, keyOf, countOf, blockCount, slot, sliceOf, offsetOf, unmapped, noKeys}
 use Rattle.model.specs.Search.{firstFree}
 use Rattle.model.specs.Conditions.{sliceAt, AllHeld, FirstFree, FirstBad}
-use Rattle.model.specs.Opening.{At, openCell, openHeader, vekOf, vmkBelow, firstCell, storedEntry, allKeys}
+use Rattle.model.specs.Opening.{At, openCell, openHeader, vekOf, vmkBelow, sliceCount, firstCell, storedEntry, allKeys, allCounts}
 use Rattle.model.specs.Opening.{OpenResult, OpenTo, NotOpened, OpenOutcome}
 use Rattle.model.specs.Read.{deciphered, Filled, Refused}
 use Rattle.model.specs.Write.{WriteResult, claimedBytes, claimed}
@@ -63,14 +63,17 @@ pub record LayoutLaws : Type 0 where
   pub next-slot : (g : Geometry) (i σ : ℕ) → slot g i (σ + 1) ≡ slot g i σ + 1
   pub next-row : (g : Geometry) (i : ℕ) → slot g (i + 1) 0 ≡ slot g i (g .p)
   pub address : (g : Geometry) (σ j : ℕ) → j < g .s → (sliceOf g (σ * g .s + j) ≡ σ) × (offsetOf g (σ * g .s + j) ≡ j)
+  -- They are the blocks of its own N logical slices (document 02, P4).
+  pub blocks : (s : Session) (i σ j : ℕ) → j < s .geometry .s → σ < countOf s i → σ * s .geometry .s + j < blockCount s i
+  pub within : (s : Session) (i a : ℕ) → 1 ≤ s .geometry .s → a < blockCount s i → sliceOf (s .geometry) a < countOf s i
 
 -- ---- what is sealed opens (document 01, "Master block", "Volume header", "Slice")
 
--- The 72 bytes of a header's text: the VEK, the VMK of the volume below, P, S.
-pub record HeaderText (text vek below : List ℕ) (p s : ℕ) : Type 0 where
+-- The 72 bytes of a header's text: the VEK, the VMK of the volume below, N, S.
+pub record HeaderText (text vek below : List ℕ) (n s : ℕ) : Type 0 where
   pub first : vekOf text ≡ vek
   pub second : vmkBelow text ≡ below
-  pub third : numberAt 64 text ≡ p
+  pub third : sliceCount text ≡ n
   pub fourth : numberAt 68 text ≡ s
 
 -- From a place on a device holds a text sealed under a key, with the byte i as associated data: IV 12, ciphertext n, tag 16.
@@ -88,8 +91,8 @@ pub record SealingLaws : Type 0 where
       → openHeader vmk i (headerOf g device i) ≡ Text text
   pub header-alone : (g : Geometry) → Allowed g → (device vmk text : List ℕ) (i : ℕ) → openHeader vmk i (headerOf g device i) ≡ Text text
       → Sealed vmk (16 + i) (headerStart g i) 72 device text
-  pub header-text : (vek below : List ℕ) (p s : ℕ) → length vek ≡ 32 → length below ≡ 32 → p < 256 ^ 4 → s < 256 ^ 4
-      → HeaderText (vek ++ (below ++ (fourBytes p ++ fourBytes s))) vek below p s
+  pub header-text : (vek below : List ℕ) (n s : ℕ) → length vek ≡ 32 → length below ≡ 32 → n < 256 ^ 4 → s < 256 ^ 4
+      → HeaderText (vek ++ (below ++ (fourBytes n ++ fourBytes s))) vek below n s
   -- Map block t of header i: IV, then its entries of four bytes in counter mode under the VEK.
   pub entry : (g : Geometry) → Allowed g → (device vek iv : List ℕ) (entries : ℕ → ℕ) (i t e : ℕ)
       → t < mapBlocks g → e < perBlock g → length iv ≡ 16 → entries e < 256 ^ 4
@@ -154,6 +157,10 @@ pub record ModelLaws : Type 0 where
   pub keys-above : (keys : List ℕ) (k : ℕ) → length keys ≡ 32 * (k + 1) → k < 15
       → (length (allKeys keys k) ≡ 480) × ((i : ℕ) → k < i → i < 15 → keyIn (allKeys keys k) i ≡ replicate 32 0)
   pub no-keys : noKeys ≡ replicate 480 0
+  -- The counts of an opening to volume k are 15: those of its headers, and zeros above k.
+  pub counts-above : (counts : List ℕ) (k : ℕ) → length counts ≡ k + 1 → k < 15
+      → (length (allCounts counts k) ≡ 15) × ((i : ℕ) → i ≤ k → countIn (allCounts counts k) i ≡ countIn counts i)
+      × ((i : ℕ) → k < i → i < 15 → countIn (allCounts counts k) i ≡ 0)
   -- A claimed slice begins with its IV block; every data block deciphers under its IV to zeros, but for the block that was asked for.
   pub claimed-ivs : (b s : ℕ) (key ivs : List ℕ) (j : ℕ) (text : List ℕ) → length ivs ≡ b → part 0 b (claimedBytes b s key ivs j text) ≡ ivs
   pub claimed-block : (b s : ℕ) (key ivs : List ℕ) (j : ℕ) (text : List ℕ) (n : ℕ) → length ivs ≡ b → 16 * s ≤ b → length text ≡ b → n < s

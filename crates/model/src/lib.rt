@@ -13,14 +13,16 @@ pub struct Geometry {
     pub p: usize,
 }
 
-// A session, handed in and back: its geometry, the opened volume k, 15 data keys of 32 bytes end to end, open or closed, and
-// the start place, where a claim begins to look (document 02, P2).
+// A session, handed in and back: its geometry, the opened volume k, 15 data keys of 32 bytes end to end, open or closed,
+// the start place, where a claim begins to look (document 02, P2), and 15 counts, N of each volume: its logical slices
+// (document 02, P4).
 pub struct Session {
     pub geometry: Geometry,
     pub k: usize,
     pub keys: [u8; 480],
     pub opened: bool,
     pub start: usize,
+    pub counts: [usize; 15],
 }
 
 // The position of the next unused tape byte (document 01 calls it the tape mark).

@@ -1,10 +1,11 @@
-// What a call can be refused for (document 01; document 02 for 23, 24 and the start place), and the answer that says no more than served or refused.
+// What a call can be refused for (document 01; document 02 for 23, 24, the start place and the counts of slices), and the answer that
+// says no more than served or refused.
 ghost use mathlib.Core.Path.{_≡_};
 ghost use Rattle.refusals.specs.Numbers.{refusalNumber, answerNumber};
 
 // The refusals, in the order of their numbers.
 pub enum Refusal {
-    // 1: B, S or P is not allowed.
+    // 1: B, S or P is not allowed; at formatting also a count of slices, or other than one a key.
     BadGeometry,
     // 2: the device's length is not the geometry's.
     DeviceLength,
@@ -18,9 +19,9 @@ pub enum Refusal {
     NoCell,
     // 7: the tag of a needed header is wrong.
     HeaderTag,
-    // 8: P or S in a header differs.
+    // 8: N in a header is 0 or above P, or S differs.
     HeaderGeometry,
-    // 9: a map entry is neither the unmapped mark nor below P.
+    // 9: a map entry is neither the unmapped mark nor below P, or stands at or past its volume's N and is not the mark.
     BadEntry,
     // 10: a slice is mapped twice.
     SliceTwice,
@@ -34,7 +35,7 @@ pub enum Refusal {
     MalformedLine,
     // 15: the tag differs (GCM opening called alone).
     TagDiffers,
-    // 20: the session is closed, or its geometry, k or start place is not allowed.
+    // 20: the session is closed, or its geometry, k, start place or an N of volumes 0 to k is not allowed.
     NotOpen,
     // 21: the tape has fewer bytes left than the call needs, or its position is past the end.
     TapeShort,

@@ -5,10 +5,11 @@ use Rattle.field.specs.Field.{xtimes, timesBits, times, squared, squares, inver
 use Rattle.field.specs.Sbox.{bit, affineBit, affine, sbox}
 use Rattle.block.specs.Bytes.{numberAfter, bigEndian}
 use Rattle.ctr.specs.CounterMode.{increment}
-use Rattle.model.specs.Geometry.{badGeometry, mapBlocks, headerBlocks, deviceLength, mapStart, sliceStart, ivStart, blockStart}
+use Rattle.model.specs.Geometry.{badGeometry, anyBadCount, mapBlocks, headerBlocks, deviceLength, mapStart, sliceStart, ivStart, blockStart}
 use Rattle.model.specs.Session.{standing, asked, short}
 use Rattle.model.specs.Search.{search, firstFree}
 use Rattle.model.specs.Opening.{withTables}
+use Rattle.model.specs.Parts.{anyBelow}
 use Rattle.model.specs.Close.{anyBad, closeRefusal}
 use Rattle.model.specs.Format.{formatNeed, formatRefusal}
 use Rattle.model.specs.Bench.{cases}
@@ -21,13 +22,13 @@ _and_ row rows = (row, rows)
 
 returns : tie.Need-returns
 unfolding cases refuse badGeometry mapBlocks headerBlocks deviceLength mapStart sliceStart ivStart blockStart standing asked short
-    search firstFree withTables anyBad closeRefusal formatNeed formatRefusal xtimes timesBits times squared squares inverse bit affineBit affine sbox
+    search firstFree withTables anyBelow anyBadCount anyBad closeRefusal formatNeed formatRefusal xtimes timesBits times squared squares inverse bit affineBit affine sbox
     numberAfter bigEndian increment
 returns c =
     refl and refl and refl and refl and refl and refl and refl and refl and refl and refl and refl and refl and
     refl and refl and refl and refl and refl and refl and refl and refl and refl and refl and refl and refl and
     refl and refl and refl and refl and refl and refl and refl and refl and refl and refl and refl and refl and
-    refl and tt
+    refl and refl and refl and refl and refl and refl and refl and refl and refl and refl and refl and refl and refl and tt
 
 pub bench-cases-spec : {M : Type 1} → statement M
 bench-cases-spec = tie.close (tie.spec returns)

@@ -2,8 +2,8 @@
 use Prim.Native.Nat.{_+_, _-_, _*_, _≤_, _<_}
 use mathlib.Core.Path.{ap, _∙_}
 use native.Mathlib.Omega.{arith}
-use native.Mathlib.Nat.{div-add-mod', mod-lt}
-use lib.Arith.{digits-div, digits-mod}
+use native.Mathlib.Nat.{div-add-mod', mod-lt, div-lt-iff-lt-mul}
+use lib.Arith.{digits-div, digits-mod, digits-lt}
 use Rattle.model.specs.declared.Geometry.{Geometry}
 use Rattle.model.specs.Geometry.{Allowed, perBlock, mapBlocks, headerBlocks, deviceLength, mapStart, sliceStart, sliceSize, ivStart, blockStart}
 use Rattle.model.specs.Parts.{part}
@@ -44,6 +44,8 @@ returns c =
       next-slot = λ g i σ. omega arith;
       next-row = λ g i. omega arith;
       address = λ g σ j l. (digits-div σ l, digits-mod σ l);
+      blocks = λ s i σ j l m. digits-lt m l;
+      within = λ s i a l m. div-lt-iff-lt-mul l .1 m;
     }
 
 pub layout-laws-spec : {M : Type 1} → statement M

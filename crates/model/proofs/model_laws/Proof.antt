@@ -4,7 +4,7 @@ use lib.Seq.{getD-set-same}
 use Rattle.model.specs.Session.{noKeys}
 use Rattle.model.proofs.Blocks.{claimed-ivs, claimed-block}
 use Rattle.model.proofs.Cells.{firstCell-lowest, lowerOpens-ends, lowerOpens-true, lowerOpens-false}
-use Rattle.model.proofs.Keys.{allKeys-length, allKeys-above}
+use Rattle.model.proofs.Keys.{allKeys-length, allKeys-above, allCounts-length, allCounts-below, allCounts-above}
 use Rattle.model.proofs.MapBlocks.{mapBlock-row}
 use Rattle.model.proofs.Searches.{free-found, bad-found, none-found}
 use Rattle.model.proofs.Seals.{block-iv, block-entry}
@@ -22,6 +22,7 @@ returns c =
       lower-shut = λ keys cell n e. lowerOpens-false keys cell (lowerOpens-ends keys cell n) e;
       keys-above = λ keys k e l. (allKeys-length keys k e l, allKeys-above keys k e l);
       no-keys = unfold noKeys in refl;
+      counts-above = λ counts k e l. (allCounts-length counts k e l, allCounts-below counts k e l, allCounts-above counts k e l);
       claimed-ivs = claimed-ivs;
       claimed-block = λ b s key ivs j text n ivsl fit textl h. claimed-block b s key ivs j text ivsl fit textl n h;
       claimed-owner = λ h i σ j ψ place text tape l. getD-set-same (h .owners) ψ _ 0 l;
