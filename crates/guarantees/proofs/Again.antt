@@ -12,19 +12,20 @@ use Rattle.model.specs.declared.Session.{Session}
 use Rattle.model.specs.Parts.{part, patched}
 use Rattle.model.specs.Geometry.{mapBlocks, headerBlocks, cellStart, cellOf, headerStart, headerOf, mapStart, sliceStart, ivStart, blockStart}
 use Rattle.model.specs.Session.{Held, held, Outcome, keyOf, sliceOf, offsetOf, startingAt}
-use Rattle.model.specs.Opening.{openHeader, storedEntry, mapEntries, Tables, loadMaps, OpenOutcome, allKeys}
+use Rattle.model.specs.Opening.{openHeader, storedEntry, mapEntries, Tables, loadMaps, OpenOutcome, allKeys, allCounts}
 use Rattle.model.specs.Read.{deciphered}
 use Rattle.model.specs.Close.{CloseResult, mapPatches, closeNeed, closed, closeModel}
 use Rattle.guarantees.specs.Runs.{State, Closing, Closes, outcome, next}
 use Rattle.model.specs.Geometry.{Allowed}
-use Rattle.model.specs.Conditions.{TablesFit, EntryFits, Enough, Names}
+use Rattle.model.specs.Conditions.{TablesFit, EntryFitsAt, Enough, Names}
 use Rattle.guarantees.specs.Arrays.{Arrays}
-use Rattle.guarantees.specs.Points.{Handed, Lent, opens, begin, Reopens}
+use Rattle.guarantees.specs.Points.{Handed, Lent, opens, holds, begin, Reopens}
 use Rattle.model.proofs.Parts.{part-part, patched-length}
-use Rattle.model.proofs.Bounds.{b-bounds, sliceOf-lt}
+use Rattle.model.proofs.Bounds.{b-bounds}
+use Rattle.model.proofs.Requests.{asked-slice}
 use Rattle.model.proofs.Tests.{below}
 use Rattle.guarantees.proofs.Places.{Apart, slice-first}
-use Rattle.guarantees.proofs.SoundTables.{tableEntry}
+use Rattle.guarantees.proofs.SoundTables.{tableEntry, sound-fits}
 use Rattle.guarantees.proofs.Blocks.{deciphered-same}
 use Rattle.guarantees.proofs.Cases.{Stands, close-cases}
 use Rattle.guarantees.proofs.MapBlocks.{mapPatches-elsewhere, storedEntry-back}
@@ -98,7 +99,7 @@ module _ (s : List ℕ) (x : Handed) (l : Lent) (k : ℕ) (sv : Served s x l k) 
     -- The stored entries are those held.
     stored : (i σ : ℕ) → i ≤ k → σ < g .p → storedEntry g (keyOf (h .session) i) (headerOf g s′ i) σ ≡ tableEntry h i σ
     stored i σ hi hσ =
-        storedEntry-back h tape ok (k + 1) enough device (op .stands .long) low i σ (omega arith) hσ (op .sound .whole i σ hi hσ)
+        storedEntry-back h tape ok (k + 1) enough device (op .stands .long) low i σ (omega arith) hσ (sound-fits (op .sound) i σ hi hσ)
 
     abbrev entries : ℕ → ℕ
     entries = mapEntries g (headerOf g s′) (allKeys (sv .keys) k)
@@ -112,12 +113,12 @@ module _ (s : List ℕ) (x : Handed) (l : Lent) (k : ℕ) (sv : Served s x l k) 
     entries-are : (m : ℕ) → m < (k + 1) * g .p → entries m ≡ tableEntry h (m / g .p) (m % g .p)
     entries-are m hm = stored (m / g .p) (m % g .p) (row m hm) (column m)
 
-    reloaded : (m : List ℕ) × (o : List ℕ) × (loadMaps g (headerOf g s′) (allKeys (sv .keys) k) k ≡ Tables m o)
+    reloaded : (m : List ℕ) × (o : List ℕ) × (loadMaps g (headerOf g s′) (allKeys (sv .keys) k) (allCounts (sv .counts) k) k ≡ Tables m o)
     reloaded =
-        load-served (g .p) entries ((k + 1) * g .p) (served-small s x l k sv) (mul-le-mul-right (g .p) low)
-        (λ m hm. ⊎-elim inl (λ less. inr (less, λ n hn e. apart m hm less n hn e)) (whole m hm))
+        load-served (g .p) (allCounts (sv .counts) k) entries ((k + 1) * g .p) (served-small s x l k sv) (mul-le-mul-right (g .p) low)
+        (λ m hm. ⊎-elim inl (λ less. inr (less .0, less .1, λ n hn e. apart m hm (less .0) n hn e)) (whole m hm))
       where
-        whole : (m : ℕ) → m < (k + 1) * g .p → EntryFits g (entries m)
+        whole : (m : ℕ) → m < (k + 1) * g .p → EntryFitsAt (g .p) (allCounts (sv .counts) k) m (entries m)
         whole m hm = rw (entries-are m hm) (op .sound .whole (m / g .p) (m % g .p) (row m hm) (column m))
 
         apart : (m : ℕ) → m < (k + 1) * g .p → entries m < g .p → (n : ℕ) → n < m → entries n ≡ entries m → ⊥
@@ -135,6 +136,7 @@ module _ (s : List ℕ) (x : Handed) (l : Lent) (k : ℕ) (sv : Served s x l k) 
           record {
             vmk = sv .vmk;
             keys = sv .keys;
+            counts = sv .counts;
             maps = reloaded .0;
             owners = reloaded .1;
             accepted =
@@ -146,21 +148,22 @@ module _ (s : List ℕ) (x : Handed) (l : Lent) (k : ℕ) (sv : Served s x l k) 
                   names = names;
                 });
             lowest = firstCell-same (x .key) (cellOf s) k (sv .vmk) (cellOf s′) cells-stay 15 0 (sv .lowest) .1;
-            headers = sym (chain-same g (headerOf g s) (headerOf g s′) k (sv .vmk) [] headers-stay) ∙ sv .headers;
+            headers = sym (chain-same g (headerOf g s) (headerOf g s′) k (sv .vmk) [] [] headers-stay) ∙ sv .headers;
             tables = reloaded .2;
           }
 
-      close-reopens : Reopens s′ y l′ k arrays
+      close-reopens : Reopens s′ y l′ k (allCounts (sv .counts) k) arrays
       unfolding ivStart blockStart served-again
       close-reopens =
           record {
             served = ap (λ (o : OpenOutcome). o .answer) is;
+            counted = ap (λ (o : OpenOutcome). o .session .counts) is;
             same = λ i a hi ha.
                 let σ = sliceOf g a in
                 let j = offsetOf g a in
                 let ψ = tableEntry h i σ in
                 ap (λ (o : OpenOutcome). deciphered g (keyOf (o .session) i) (storedEntry g (keyOf (o .session) i) (headerOf g s′ i) σ) j s′) is
-                ∙ ap (λ (φ : ℕ). deciphered g (keyOf (h .session) i) φ j s′) (stored i σ hi (sliceOf-lt g ok a ha))
+                ∙ ap (λ (φ : ℕ). deciphered g (keyOf (h .session) i) φ j s′) (stored i σ hi (omega (arith, asked-slice (op .stands) hi ha)))
                 ∙ deciphered-same g (keyOf (h .session) i) ψ j s′ device
                 (λ ψ<p. (
                   slices-stay (ivStart g ψ j) 16 (omega (arith, slice-first g ψ)),
@@ -188,11 +191,11 @@ pub run-again : (s : List ℕ) (x : Handed) (l : Lent) (k : ℕ) → Served s x 
     → (tape : List ℕ) → outcome u (Closing tape) .answer ≡ Closes tape CloseResult.Closed
     → (y : Handed) (l′ : Lent) → y .geometry ≡ x .geometry → y .key ≡ x .key
     → Names (y .geometry .p) (y .perm) → TablesFit (y .geometry) (length (l′ .maps)) (length (l′ .owners))
-    → Reopens (next u (Closing tape) .device) y l′ k arrays
+    → Reopens (next u (Closing tape) .device) y l′ k (holds s x l .session .counts) arrays
 unfolding outcome
 run-again s x l k sv u arrays kept tape e y l′ eg ek names fit =
-    subst (λ (z : Handed). Reopens (next u (Closing tape) .device) z l′ k arrays) (sym same)
-    (subst (λ (o : Outcome CloseResult). Reopens (patched (o .patches) (u .device)) y₀ l′ k arrays) (sym (done .is))
+    subst (λ (z : Handed). Reopens (next u (Closing tape) .device) z l′ k (holds s x l .session .counts) arrays) (sym same)
+    (subst (λ (o : Outcome CloseResult). Reopens (patched (o .patches) (u .device)) y₀ l′ k (holds s x l .session .counts) arrays) (sym (done .is))
     (subst Then (sym session) literal op (done .enough)))
   where
     y₀ : Handed
@@ -213,14 +216,15 @@ run-again s x l k sv u arrays kept tape e y l′ eg ek names fit =
     Then : Session → Type 0
     Then c = Open (begin s x l) arrays (record { device = u .device; held = heldWith c })
         → Enough (length tape) (u .held .position) (closeNeed c)
-        → Reopens (patched (mapPatches (heldWith c) tape (c .k + 1)) (u .device)) y₀ l′ k arrays
+        → Reopens (patched (mapPatches (heldWith c) tape (c .k + 1)) (u .device)) y₀ l′ k (holds s x l .session .counts) arrays
 
     session : u .held .session ≡ startingAt (u .held .session .start) (openedBy s x l k sv .session)
     session = op .session ∙ ap (λ (o : OpenOutcome). startingAt (u .held .session .start) (o .session)) (served-is s x l k sv)
 
     literal : Then (startingAt (u .held .session .start) (openedBy s x l k sv .session))
     literal o enough =
-        close-reopens s x l k sv (y .perm) (y .position) l′ (u .device) (u .held .maps) (u .held .owners) tape (u .held .position)
+        rw (served-is s x l k sv)
+        (close-reopens s x l k sv (y .perm) (y .position) l′ (u .device) (u .held .maps) (u .held .owners) tape (u .held .position)
         (u .held .session .start) arrays o enough
         (subst (λ (g : Geometry). Names (g .p) (y .perm)) eg names)
-        (subst (λ (g : Geometry). TablesFit g (length (l′ .maps)) (length (l′ .owners))) eg fit)
+        (subst (λ (g : Geometry). TablesFit g (length (l′ .maps)) (length (l′ .owners))) eg fit))

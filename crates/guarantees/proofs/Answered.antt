@@ -10,7 +10,8 @@ use Rattle.model.specs.declared.Geometry.{Geometry}
 use Rattle.model.specs.declared.Session.{Session}
 use Rattle.model.specs.Geometry.{Allowed, deviceLength, cellOf, headerOf}
 use Rattle.model.specs.Session.{Held, Outcome, geometry, entryOf, unmapped, noKeys}
-use Rattle.model.specs.Opening.{Cell, Chain, mapEntries, Loaded, openRefusal, OpenOutcome, allKeys, withTables, withKeys, withCell, openModel}
+use Rattle.model.specs.Opening.{Cell, Chain, mapEntries, Loaded, openRefusal, OpenOutcome, allKeys, allCounts}
+use Rattle.model.specs.Opening.{withTables, withKeys, withCell, openModel}
 use Rattle.model.specs.Read.{ReadResult, deciphered, readRefusal, readModel, findModel}
 use Rattle.model.specs.Write.{WriteResult, writeModel}
 use Rattle.model.specs.Close.{CloseResult, closeRefusal, closeModel}
@@ -118,19 +119,21 @@ module _ (device : List ℕ) (g : Geometry) (key maps owners perm : List ℕ) wh
       room : (k + 1) * g .p ≤ 15 * g .p
       room = mul-le-mul-right (g .p) (omega (arith, low .top))
 
-      withTables-answered : (keys : List ℕ) → AllUnlocked device g k top keys → {l : Loaded}
-          → LoadEnds (g .p) (mapEntries g header keys) ((k + 1) * g .p) l → Opens (withTables g perm k keys l)
+      withTables-answered : (keys counts : List ℕ) → AllUnlocked device g k top keys counts → {l : Loaded}
+          → LoadEnds (g .p) counts (mapEntries g header keys) ((k + 1) * g .p) l → Opens (withTables g perm k keys counts l)
       unfolding withTables noKeys
-      withTables-answered keys all (loaded ms os holds) =
-          OpenAnswered.served first k top _ low all (holds-sound (g .p) (mapEntries g header keys) ((k + 1) * g .p) ms os room holds) refl
-      withTables-answered keys all (bad n l sound other out) = bad-entry first k top keys low all n l sound other out
-      withTables-answered keys all (twice n l sound slice m m<n same) = slice-twice first k top keys low all n l sound slice m m<n same
+      withTables-answered keys counts all (loaded ms os holds) =
+          OpenAnswered.served first k top _ low all
+          (holds-sound (g .p) counts (mapEntries g header keys) ((k + 1) * g .p) ms os room holds) refl
+      withTables-answered keys counts all (bad n l sound other out) = bad-entry first k top keys counts low all n l sound other out
+      withTables-answered keys counts all (twice n l sound slice m m<n same) =
+          slice-twice first k top keys counts low all n l sound slice m m<n same
 
       withKeys-answered : {c : Chain} → ChainEnds device g k top c → Opens (withKeys g perm header k c)
       unfolding withKeys noKeys
-      withKeys-answered (whole keys u) =
-          withTables-answered (allKeys keys k) (allKeys-unlocked device g k top keys u)
-          (load-ends (g .p) (mapEntries g header (allKeys keys k)) ((k + 1) * g .p) (omega (arith, ok .slices-most)) room)
+      withKeys-answered (whole keys counts u) =
+          withTables-answered (allKeys keys k) (allCounts counts k) (allKeys-unlocked device g k top (low .top) keys counts u)
+          (load-ends (g .p) (allCounts counts k) (mapEntries g header (allKeys keys k)) ((k + 1) * g .p) (omega (arith, ok .slices-most)) room)
       withKeys-answered (wrong-tag i vmk reached e) = header-tag first k top low i vmk reached e
       withKeys-answered (misfit i vmk text reached e f) = header-geometry first k top low i vmk text reached e f
 

@@ -7,7 +7,7 @@ use native.Mathlib.Omega.{arith}
 use lib.ListN.{length, getD}
 use lib.Seq.{getD-set-same, getD-set-other}
 use lib.Arith.{digits-lt}
-use Rattle.model.specs.Session.{Held, geometry, slot, unmapped}
+use Rattle.model.specs.Session.{Held, geometry, countOf, slot, unmapped}
 use Rattle.model.specs.Write.{claimed}
 use Rattle.model.proofs.Tests.{equal}
 use Rattle.guarantees.specs.Points.{Maps}
@@ -15,9 +15,13 @@ use Rattle.guarantees.proofs.SoundTables.{SoundTables, OpenVolume, tabl
 use Rattle.guarantees.proofs.Blocks.{same-slot}
 use Rattle.guarantees.proofs.Cases.{Stands}
 
-module _ (n : ℕ) (h : Held) (i σ j ψ place : ℕ) (text tape : List ℕ) (st : Stands n h) (oi : OpenVolume h i) (hσ : σ < geometry h .p) where
+module _ (n : ℕ) (h : Held) (i σ j ψ place : ℕ) (text tape : List ℕ) (st : Stands n h) (oi : OpenVolume h i)
+    (below : σ < countOf (h .session) i) where
   abbrev h′ : Held
   h′ = claimed h i σ j ψ place text tape .held
+
+  hσ : σ < geometry h .p
+  hσ = omega (arith, below, st .usable .counted i (omega (arith, oi)))
 
   pub claimed-entry : tableEntry h′ i σ ≡ ψ
   claimed-entry =
@@ -50,7 +54,8 @@ module _ (n : ℕ) (h : Held) (i σ j ψ place : ℕ) (text tape : List ℕ) (st
     pub claimed-sound : tableEntry h i σ ≡ unmapped → SoundTables h′
     claimed-sound un =
         record {
-          whole = λ v τ ov hτ. ⊎-elim (λ c. inr (rw (c .2) hψ)) (λ c. rw (c .1) (sound .whole v τ ov hτ)) (claimed-entry-cases v τ hτ);
+          whole = λ v τ ov hτ.
+              ⊎-elim (λ c. inr (rw (c .2) hψ, rw (c .0, c .1) below)) (λ c. rw (c .1) (sound .whole v τ ov hτ)) (claimed-entry-cases v τ hτ);
           apart = record { once = once; owner = owner; free = none-free };
         }
       where

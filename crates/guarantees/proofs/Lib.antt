@@ -15,7 +15,6 @@ pub mod Unlocks
 pub mod Tables
 pub mod Permutations
 pub mod Opened
-pub mod Keys
 pub mod Answered
 pub mod Point2
 pub mod Again

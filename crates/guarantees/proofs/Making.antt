@@ -13,7 +13,7 @@ use Rattle.refusals.specs.Numbers.{refuse}
 use Rattle.ctr.specs.CounterMode.{ctr}
 use Rattle.model.specs.declared.Geometry.{Geometry}
 use Rattle.model.specs.Parts.{part, joined, Patch, patched}
-use Rattle.model.specs.Geometry.{Allowed, mapBlocks, deviceLength, fourBytes, cellStart, headerStart, mapStart}
+use Rattle.model.specs.Geometry.{Allowed, countIn, mapBlocks, deviceLength, fourBytes, cellStart, headerStart, mapStart}
 use Rattle.model.specs.Session.{keyIn, unless}
 use Rattle.model.specs.Opening.{noMaps}
 use Rattle.model.specs.Close.{mapBlock}
@@ -116,12 +116,12 @@ module _ (g : Geometry) (n : ℕ) (drawn : List ℕ) (long : length drawn ≡ fo
 
   -- ---- the patches: those of cell i, and of header i with its map
 
-  module _ (keys : List ℕ) where
+  module _ (keys counts : List ℕ) where
     abbrev cellPatch : ℕ → Patch
     cellPatch i = record { at = cellStart i; bytes = madeCell g n keys drawn i }
 
     abbrev headerPatch : ℕ → Patch
-    headerPatch i = record { at = headerStart g i; bytes = madeHeader g n drawn i }
+    headerPatch i = record { at = headerStart g i; bytes = madeHeader g n counts drawn i }
 
     abbrev mapPatch : ℕ → Patch
     mapPatch i = record { at = mapStart g i; bytes = madeMap g n drawn i }
@@ -138,7 +138,7 @@ module _ (g : Geometry) (n : ℕ) (drawn : List ℕ) (long : length drawn ≡ fo
     cellPatches-joined zero = refl
     cellPatches-joined (suc c) = ap (λ (ps : List Patch). ps ++ cells c) (cellPatches-joined c)
 
-    headerPatches-joined : (v : ℕ) → headerPatches g n drawn v ≡ joined v headers
+    headerPatches-joined : (v : ℕ) → headerPatches g n counts drawn v ≡ joined v headers
     unfolding headerPatches joined
     headerPatches-joined zero = refl
     headerPatches-joined (suc v) = ap (λ (ps : List Patch). ps ++ headers v) (headerPatches-joined v)
@@ -149,7 +149,7 @@ module _ (g : Geometry) (n : ℕ) (drawn : List ℕ) (long : length drawn ≡ fo
     abbrev device : List ℕ
     device = patched patches noise
 
-    formatted-joined : formatted g n keys drawn ≡ device
+    formatted-joined : formatted g n keys counts drawn ≡ device
     unfolding formatted
     formatted-joined = ap₂ (λ (ps qs : List Patch). patched (ps ++ qs) noise) (cellPatches-joined n) (headerPatches-joined n)
 
@@ -157,8 +157,8 @@ module _ (g : Geometry) (n : ℕ) (drawn : List ℕ) (long : length drawn ≡ fo
       cell-long : (i : ℕ) → i < n → length (madeCell g n keys drawn i) ≡ 60
       cell-long = drawn-laws.madeCell-length g n drawn long keys
 
-      header-long : (i : ℕ) → i < n → length (madeHeader g n drawn i) ≡ 100
-      header-long = drawn-laws.madeHeader-length g n drawn long
+      header-long : (i : ℕ) → i < n → length (madeHeader g n counts drawn i) ≡ 100
+      header-long = drawn-laws.madeHeader-length g n drawn long counts
 
       ivs-left : (i : ℕ) → i < n → Enough (length drawn) (mapIvAt g n i) (16 * m)
       ivs-left i l = omega (arith, drawn-laws.ivs-end g n drawn long i l)
@@ -186,7 +186,7 @@ module _ (g : Geometry) (n : ℕ) (drawn : List ℕ) (long : length drawn ≡ fo
       cell-stands i l =
           stands (cellPatch i) (Memᴰ·append-left (joined n headers) (joined-member cells n i l (List·Memᴰ·head refl))) 60 (cell-long i l)
 
-      header-stands : (i : ℕ) → i < n → part (headerStart g i) 100 device ≡ madeHeader g n drawn i
+      header-stands : (i : ℕ) → i < n → part (headerStart g i) 100 device ≡ madeHeader g n counts drawn i
       header-stands i l =
           stands (headerPatch i) (Memᴰ·append-right (joined n cells) (joined-member headers n i l (List·Memᴰ·head refl))) 100 (header-long i l)
 
@@ -208,11 +208,12 @@ module _ (g : Geometry) (n : ℕ) (drawn : List ℕ) (long : length drawn ≡ fo
       below-same (suc i) = refl
 
       header-sealed : (i : ℕ) → i < n
-          → Sealed (vmk i) (16 + i) (headerStart g i) 72 device (vek i ++ (belowOf vmk i ++ (fourBytes (g .p) ++ fourBytes (g .s))))
+          → Sealed (vmk i) (16 + i) (headerStart g i) 72 device
+          (vek i ++ (belowOf vmk i ++ (fourBytes (countIn counts i) ++ fourBytes (g .s))))
       header-sealed i l =
           rw (← below-same i)
-          (stands-sealed (vmk i) (headerIv i) (16 + i) 72 (madeText g drawn i) (draws .headerIv-long i l)
-          (drawn-laws.madeText-length g n drawn long i l) (headerStart g i) device (header-stands i l))
+          (stands-sealed (vmk i) (headerIv i) (16 + i) 72 (madeText g counts drawn i) (draws .headerIv-long i l)
+          (drawn-laws.madeText-length g n drawn long counts i l) (headerStart g i) device (header-stands i l))
 
       -- ---- elsewhere
 
@@ -245,7 +246,7 @@ module _ (g : Geometry) (n : ℕ) (drawn : List ℕ) (long : length drawn ≡ fo
           in-header i l (inr (inl k)) = inr (inr (inl (k .0, rw (map-long i l) at (k .1))))
           in-header i l (inr (inr k)) = absurd k
 
-      made : Made g n keys drawn draws device
+      made : Made g n keys counts drawn draws device
       made =
           record {
             long = patched-length patches noise ∙ noise-long;
@@ -256,8 +257,8 @@ module _ (g : Geometry) (n : ℕ) (drawn : List ℕ) (long : length drawn ≡ fo
                 stands-sealed (keyIn keys i) (cellIv i) i 32 (vmk i) (draws .cellIv-long i l) (draws .vmk-long i l) (cellStart i) device
                 (cell-stands i l);
             header-iv = λ i l.
-                stands-iv (vmk i) (headerIv i) (16 + i) 72 (madeText g drawn i) (draws .headerIv-long i l)
-                (drawn-laws.madeText-length g n drawn long i l) (headerStart g i) device (header-stands i l);
+                stands-iv (vmk i) (headerIv i) (16 + i) 72 (madeText g counts drawn i) (draws .headerIv-long i l)
+                (drawn-laws.madeText-length g n drawn long counts i l) (headerStart g i) device (header-stands i l);
             header = header-sealed;
             map = block-stands;
             noise = λ p out. patched-kept patches noise p (λ w. out (covered p w));
@@ -265,35 +266,38 @@ module _ (g : Geometry) (n : ℕ) (drawn : List ℕ) (long : length drawn ≡ fo
 
 -- ---- the answer
 
-pub format-answered : (device : ℕ) (g : Geometry) (n : ℕ) (keys tape : List ℕ) (position : ℕ)
-    → FormatAnswered device g n keys tape position (formatModel device g n keys tape position)
+pub format-answered : (device : ℕ) (g : Geometry) (n : ℕ) (keys counts tape : List ℕ) (position : ℕ)
+    → FormatAnswered device g n keys counts tape position (formatModel device g n keys counts tape position)
 unfolding formatModel formatNeed sealed refuse
-format-answered device g n keys tape position = go (format-comes device g n (length keys) (length tape) position (lowerRefusal g n keys drawn))
+format-answered device g n keys counts tape position =
+    go (format-comes device g n (length keys) counts (length tape) position (lowerRefusal g n keys drawn))
   where
     drawn : List ℕ
     drawn = part position (formatNeed g n) tape
 
     answer : ℕ → FormatResult
-    answer r = unless r FormatResult.Refused (Formatted (formatted g n keys drawn) (position + formatNeed g n))
+    answer r = unless r FormatResult.Refused (Formatted (formatted g n keys counts drawn) (position + formatNeed g n))
 
     Answered : FormatResult → Type 0
-    Answered = FormatAnswered device g n keys tape position
+    Answered = FormatAnswered device g n keys counts tape position
 
-    refused : (r : ℕ) → (r ≡ 0 → ⊥) → First (formatRules device g n (length keys) (length tape) position) r 0 → Answered (answer r)
+    refused : (r : ℕ) → (r ≡ 0 → ⊥) → First (formatRules device g n (length keys) counts (length tape) position) r 0 → Answered (answer r)
     refused zero ne first = absurd (ne refl)
     refused (suc r) ne first = handed-wrong (suc r) ne first
 
-    drawn-done : First (formatRules device g n (length keys) (length tape) position) 0 0
-        → Formattable device g n (length keys) (length tape) position → {b : Bool} → LowerEnd keys (madeCell g n keys drawn) n b
+    drawn-done : First (formatRules device g n (length keys) counts (length tape) position) 0 0
+        → Formattable device g n (length keys) counts (length tape) position → {b : Bool} → LowerEnd keys (madeCell g n keys drawn) n b
         → Answered (answer (refuse b 24 0))
     drawn-done first known (some i j v l h e) =
         lower-cell first (draws g n drawn (part-length tape position (formatNeed g n) (known .enough))) i j v l h e
     drawn-done first known (none shut) =
         let long = part-length tape position (formatNeed g n) (known .enough) in
-        FormatAnswered.served first (draws g n drawn long) shut (formatted g n keys drawn)
-        (rw (formatted-joined g n drawn long keys) (made g n drawn long keys (known .allowed) (known .count .1)))
+        FormatAnswered.served first (draws g n drawn long) shut (formatted g n keys counts drawn)
+        (rw (formatted-joined g n drawn long keys counts) (made g n drawn long keys counts (known .allowed) (known .count .1)))
 
-    go : {r : ℕ} → Comes (formatRules device g n (length keys) (length tape) position) (Formattable device g n (length keys) (length tape) position)
-        (lowerRefusal g n keys drawn) r → Answered (answer r)
+    go : {r : ℕ}
+        → Comes (formatRules device g n (length keys) counts (length tape) position) (Formattable device g n (length keys) counts (length tape) position)
+        (lowerRefusal g n keys drawn) r
+        → Answered (answer r)
     go {r} (stopped ne first) = refused r ne (leads-first first)
     go (through first known) = drawn-done (leads-first first) known (lowerOpens-ends keys (madeCell g n keys drawn) n)

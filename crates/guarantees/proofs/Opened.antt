@@ -1,7 +1,7 @@
 -- What a served opening leaves, and that it hangs on cells and headers up to k alone. Assumes nothing.
 use Prim.Native.Nat.{ℕ, zero, suc, _+_, _*_, _/_, _%_, _≤_, _<_}
 use mathlib.Core.Path.{_≡_, refl, sym, ap, _∙_, fun-ext}
-use mathlib.Core.List.{List, [], _++_}
+use mathlib.Core.List.{List, [], _∷_, _++_}
 use mathlib.Core.Logic.{inl, inr, ⊎-elim}
 use native.Mathlib.Omega.{arith}
 use native.Mathlib.Nat.{div-add-mod', mod-lt, mul-le-mul-right, div-lt-iff-lt-mul, le-of-suc-le-suc}
@@ -13,17 +13,17 @@ use Rattle.model.specs.declared.Search.{Search}
 use Rattle.model.specs.declared.Search.the-variants.{Free, Bad, Full}
 use Rattle.model.specs.Geometry.{deviceLength, cellOf, headerOf, Allowed}
 use Rattle.model.specs.Session.{Held, held, keyIn, keyOf, unmapped, unless}
-use Rattle.model.specs.Opening.{Cell, At, NoCell, openCell, orNext, firstCell, openHeader, vekOf, vmkBelow, Chain, Keys, Broken, link, chain}
-use Rattle.model.specs.Opening.{storedEntry, mapEntries, Loaded, Tables, Spoilt, loadMaps, openRefusal, OpenTo, OpenOutcome}
-use Rattle.model.specs.Opening.{untouched, allKeys, openSession, withTables, withKeys, withCell, openModel}
+use Rattle.model.specs.Opening.{Cell, At, NoCell, openCell, orNext, firstCell, openHeader, vekOf, vmkBelow, sliceCount, Chain, Keys, Broken}
+use Rattle.model.specs.Opening.{link, chain, storedEntry, mapEntries, Loaded, Tables, Spoilt, loadMaps, openRefusal, OpenTo, OpenOutcome}
+use Rattle.model.specs.Opening.{untouched, allKeys, allCounts, openSession, withTables, withKeys, withCell, openModel}
 use Rattle.model.specs.Search.{firstFree, startPlace}
 use Rattle.model.specs.Conditions.{TablesFit, Names}
 use Rattle.model.proofs.Tests.{equal}
 use Rattle.model.proofs.Cells.{firstCell-lowest}
-use Rattle.model.proofs.Keys.{allKeys-length, allKeys-above}
+use Rattle.model.proofs.Keys.{allKeys-length, allKeys-above, allCounts-length, allCounts-above}
 use Rattle.model.proofs.Searches.{Finds, firstFree-finds}
 use Rattle.model.proofs.Requests as requests
-use Rattle.guarantees.specs.Openings.{Lowest}
+use Rattle.guarantees.specs.Openings.{Lowest, AllUnlocked}
 use Rattle.guarantees.specs.Points.{Handed, Lent, opens, Maps, StartsAt, Opens}
 use Rattle.guarantees.proofs.Reflects.{refutes-passed}
 use Rattle.guarantees.proofs.Chains.{leads-zero}
@@ -31,7 +31,7 @@ use Rattle.guarantees.proofs.Orders.{missing-refutes, open-leads}
 use Rattle.guarantees.proofs.SoundTables.{SoundTables, tableEntry}
 use Rattle.guarantees.proofs.Blocks.{same-slot}
 use Rattle.guarantees.proofs.Cases.{Stands}
-use Rattle.guarantees.proofs.Unlocks.{chain-unlocked}
+use Rattle.guarantees.proofs.Unlocks.{UnlockedFrom, allKeys-unlocked, chain-unlocked}
 use Rattle.guarantees.proofs.Tables.{Holds, load-holds, load-same}
 use Rattle.guarantees.proofs.Permutations.{names-below}
 
@@ -60,14 +60,16 @@ module _ (key : List ℕ) (c : ℕ → List ℕ) (k : ℕ) (vmk : List ℕ) (c�
 abbrev pub OpenAlike : (d d′ : ℕ → List ℕ) → ℕ → Type 0
 OpenAlike d d′ i = (vmk : List ℕ) → openHeader vmk i (d i) ≡ openHeader vmk i (d′ i)
 
-pub chain-same : (g : Geometry) (d d′ : ℕ → List ℕ) (n : ℕ) (vmk above : List ℕ) → ((i : ℕ) → i ≤ n → OpenAlike d d′ i)
-    → chain g d n vmk above ≡ chain g d′ n vmk above
+pub chain-same : (g : Geometry) (d d′ : ℕ → List ℕ) (n : ℕ) (vmk veks counts : List ℕ) → ((i : ℕ) → i ≤ n → OpenAlike d d′ i)
+    → chain g d n vmk veks counts ≡ chain g d′ n vmk veks counts
 unfolding chain
-chain-same g d d′ zero vmk above same = ap (λ (u : gcm.Opened). link g u (λ text. Keys (vekOf text ++ above))) (same zero (omega arith) vmk)
-chain-same g d d′ (suc n) vmk above same =
-    ap (λ (u : gcm.Opened). link g u (λ text. chain g d n (vmkBelow text) (vekOf text ++ above))) (same (suc n) (omega arith) vmk)
+chain-same g d d′ zero vmk veks counts same =
+    ap (λ (u : gcm.Opened). link g u (λ text. Keys (vekOf text ++ veks) (sliceCount text ∷ counts))) (same zero (omega arith) vmk)
+chain-same g d d′ (suc n) vmk veks counts same =
+    ap (λ (u : gcm.Opened). link g u (λ text. chain g d n (vmkBelow text) (vekOf text ++ veks) (sliceCount text ∷ counts)))
+    (same (suc n) (omega arith) vmk)
     ∙ ap (link g (openHeader vmk (suc n) (d′ (suc n))))
-    (fun-ext λ text. chain-same g d d′ n (vmkBelow text) (vekOf text ++ above) (λ i l. same i (omega arith)))
+    (fun-ext λ text. chain-same g d d′ n (vmkBelow text) (vekOf text ++ veks) (sliceCount text ∷ counts) (λ i l. same i (omega arith)))
 
 -- ---- what passes 1 to 5
 
@@ -112,12 +114,13 @@ module _ (device : List ℕ) (x : Handed) (l : Lent) (k : ℕ) where
   pub record Served : Type 0 where
     pub vmk : List ℕ
     pub keys : List ℕ
+    pub counts : List ℕ
     pub maps : List ℕ
     pub owners : List ℕ
     pub accepted : openRefusalOf device x l ≡ 0
     pub lowest : cell ≡ At k vmk
-    pub headers : chain g header k vmk [] ≡ Keys keys
-    pub tables : loadMaps g header (allKeys keys k) k ≡ Tables maps owners
+    pub headers : chain g header k vmk [] [] ≡ Keys keys counts
+    pub tables : loadMaps g header (allKeys keys k) (allCounts counts k) k ≡ Tables maps owners
 
   abbrev pub openedBy : Served → OpenOutcome
   openedBy s =
@@ -125,7 +128,7 @@ module _ (device : List ℕ) (x : Handed) (l : Lent) (k : ℕ) where
         answer = OpenTo k;
         maps = s .maps;
         owners = s .owners;
-        session = openSession g k (allKeys (s .keys) k) (s .owners) (x .perm);
+        session = openSession g k (allKeys (s .keys) k) (allCounts (s .counts) k) (s .owners) (x .perm);
       }
 
   abbrev pub heldBy : Served → Held
@@ -137,23 +140,35 @@ module _ (device : List ℕ) (x : Handed) (l : Lent) (k : ℕ) where
       ap (λ (r : ℕ). unless r (untouched (l .maps) (l .owners)) (withCell g (x .perm) header cell)) (s .accepted)
       ∙ ap (withCell g (x .perm) header) (s .lowest)
       ∙ ap (withKeys g (x .perm) header k) (s .headers)
-      ∙ ap (withTables g (x .perm) k (allKeys (s .keys) k)) (s .tables)
+      ∙ ap (withTables g (x .perm) k (allKeys (s .keys) k) (allCounts (s .counts) k)) (s .tables)
 
   pub served : opens device x l .answer ≡ OpenTo k → Served
   unfolding openModel withCell withKeys withTables
   served e = top (openRefusalOf device x l) refl e
     where
-      third : (n : ℕ) (vmk : List ℕ) → openRefusalOf device x l ≡ 0 → cell ≡ At n vmk → (keys : List ℕ) → chain g header n vmk [] ≡ Keys keys
-          → (t : Loaded) → loadMaps g header (allKeys keys n) n ≡ t → withTables g (x .perm) n (allKeys keys n) t .answer ≡ OpenTo k → Served
-      third n vmk a b keys c (Spoilt r) d f = let z : _≡_ {A = ℕ} 0 1 = cc in absurd (omega arith)
-      third n vmk a b keys c (Tables m o) d f =
+      third : (n : ℕ) (vmk : List ℕ) → openRefusalOf device x l ≡ 0 → cell ≡ At n vmk
+          → (keys counts : List ℕ) → chain g header n vmk [] [] ≡ Keys keys counts
+          → (t : Loaded) → loadMaps g header (allKeys keys n) (allCounts counts n) n ≡ t
+          → withTables g (x .perm) n (allKeys keys n) (allCounts counts n) t .answer ≡ OpenTo k → Served
+      third n vmk a b keys counts c (Spoilt r) d f = let z : _≡_ {A = ℕ} 0 1 = cc in absurd (omega arith)
+      third n vmk a b keys counts c (Tables m o) d f =
           let q : n ≡ k = cc in
-          record { vmk = vmk; keys = keys; maps = m; owners = o; accepted = a; lowest = rw q at b; headers = rw q at c; tables = rw q at d }
+          record {
+            vmk = vmk;
+            keys = keys;
+            counts = counts;
+            maps = m;
+            owners = o;
+            accepted = a;
+            lowest = rw q at b;
+            headers = rw q at c;
+            tables = rw q at d;
+          }
 
-      second : (n : ℕ) (vmk : List ℕ) → openRefusalOf device x l ≡ 0 → cell ≡ At n vmk → (c : Chain) → chain g header n vmk [] ≡ c
+      second : (n : ℕ) (vmk : List ℕ) → openRefusalOf device x l ≡ 0 → cell ≡ At n vmk → (c : Chain) → chain g header n vmk [] [] ≡ c
           → withKeys g (x .perm) header n c .answer ≡ OpenTo k → Served
       second n vmk a b (Broken r) c f = let z : _≡_ {A = ℕ} 0 1 = cc in absurd (omega arith)
-      second n vmk a b (Keys keys) c f = third n vmk a b keys c _ refl f
+      second n vmk a b (Keys keys counts) c f = third n vmk a b keys counts c _ refl f
 
       first : openRefusalOf device x l ≡ 0 → (c : Cell) → cell ≡ c → withCell g (x .perm) header c .answer ≡ OpenTo k → Served
       first a NoCell b f = let z : _≡_ {A = ℕ} 0 1 = cc in absurd (omega arith)
@@ -181,10 +196,10 @@ module _ (device : List ℕ) (x : Handed) (l : Lent) (k : ℕ) where
     abbrev entries : ℕ → ℕ
     entries = mapEntries g header (allKeys (s .keys) k)
 
-    table : Holds (g .p) entries ((k + 1) * g .p) (s .maps) (s .owners)
+    table : Holds (g .p) (allCounts (s .counts) k) entries ((k + 1) * g .p) (s .maps) (s .owners)
     table =
-        load-holds (g .p) entries ((k + 1) * g .p) served-small (mul-le-mul-right (g .p) (omega (arith, served-low))) (s .maps) (s .owners)
-        (s .tables)
+        load-holds (g .p) (allCounts (s .counts) k) entries ((k + 1) * g .p) served-small (mul-le-mul-right (g .p) (omega (arith, served-low)))
+        (s .maps) (s .owners) (s .tables)
 
     inside : (i σ : ℕ) → i ≤ k → σ < g .p → i * g .p + σ < 15 * g .p
     inside i σ hi hσ = digits-lt (omega (arith, served-low)) hσ
@@ -192,7 +207,7 @@ module _ (device : List ℕ) (x : Handed) (l : Lent) (k : ℕ) where
     pub served-sound : SoundTables (heldBy s)
     served-sound =
         record {
-          whole = λ i σ hi hσ. table .whole (i * g .p + σ) (inside i σ hi hσ);
+          whole = λ i σ hi hσ. rw (digits-div i hσ, digits-mod i hσ) at (table .whole (i * g .p + σ) (inside i σ hi hσ));
           apart = record {
             once = λ i σ j τ hi hj hσ hτ m e.
                 same-slot g i σ j τ hσ hτ (table .once (i * g .p + σ) (j * g .p + τ) (inside i σ hi hσ) (inside j τ hj hτ) m e);
@@ -226,17 +241,32 @@ module _ (device : List ℕ) (x : Handed) (l : Lent) (k : ℕ) where
     pub served-place : openedBy s .session .start ≤ g .p
     served-place = ⊎-elim (λ f. omega (arith, f .inside, served-taken .names .places)) (λ f. omega (arith, f .1)) served-start
 
+    unlocked : UnlockedFrom device g k (s .vmk) 0 (s .keys) (s .counts)
+    unlocked = chain-unlocked device g k (s .vmk) (served-taken .good) (served-taken .long) served-low (s .keys) (s .counts) (s .headers)
+
+    keys-size : length (s .keys) ≡ 32 * (k + 1)
+    keys-size = omega (arith, unlocked .size)
+
+    counts-size : length (s .counts) ≡ k + 1
+    counts-size = omega (arith, unlocked .many)
+
+    -- The data keys and the counts are those that stand on the device.
+    pub served-keys : AllUnlocked device g k (s .vmk) (openedBy s .session .keys) (openedBy s .session .counts)
+    served-keys = allKeys-unlocked device g k (s .vmk) served-low (s .keys) (s .counts) unlocked
+
     pub served-stands : Stands (length device) (heldBy s)
     served-stands =
         record {
-          usable = record { opened = refl; allowed = served-taken .good; top = le-of-suc-le-suc served-low; place = served-place };
+          usable = record {
+            opened = refl;
+            allowed = served-taken .good;
+            top = le-of-suc-le-suc served-low;
+            place = served-place;
+            counted = λ i l. let u = served-keys i (omega arith) in rw (u .counts) (u .fits .0);
+          };
           long = served-taken .long;
           tables = (table .maps-long, table .owners-long);
         }
-
-    keys-size : length (s .keys) ≡ 32 * (k + 1)
-    keys-size =
-        omega (arith, chain-unlocked device g k (s .vmk) (served-taken .good) (served-taken .long) served-low (s .keys) (s .headers) .size)
 
     -- The entries that stand on the device.
     abbrev onDevice : ℕ → ℕ → ℕ
@@ -256,6 +286,8 @@ module _ (device : List ℕ) (x : Handed) (l : Lent) (k : ℕ) where
           position = refl;
           keys-long = allKeys-length (s .keys) k keys-size served-low;
           keys-above = allKeys-above (s .keys) k keys-size served-low;
+          counts-long = allCounts-length (s .counts) k counts-size served-low;
+          counts-above = allCounts-above (s .counts) k counts-size served-low;
           maps-long = table .maps-long;
           owners-long = table .owners-long;
           mapped = λ i σ hi hσ. sym (served-entry i σ hi hσ);
@@ -275,14 +307,15 @@ served-same s t x l l′ k ok cells headers a = (
   record {
     vmk = a .vmk;
     keys = a .keys;
+    counts = a .counts;
     maps = a .maps;
     owners = a .owners;
     accepted = openRefusal-taken t x l′ ok;
     lowest = firstCell-same (x .key) (cellOf s) k (a .vmk) (cellOf t) cells 15 0 (a .lowest) .1;
     headers =
-        sym (chain-same g₀ (headerOf g₀ s) (headerOf g₀ t) k (a .vmk) [] (λ i m vmk. ap (openHeader vmk i) (headers i m))) ∙ a .headers;
+        sym (chain-same g₀ (headerOf g₀ s) (headerOf g₀ t) k (a .vmk) [] [] (λ i m vmk. ap (openHeader vmk i) (headers i m))) ∙ a .headers;
     tables =
-        sym (load-same (g₀ .p) _ _ ((k + 1) * g₀ .p) 0 _ _
+        sym (load-same (g₀ .p) (allCounts (a .counts) k) _ _ ((k + 1) * g₀ .p) 0 _ _
         (λ m lo hi. ap (λ (d : List ℕ). storedEntry g₀ (keyIn (allKeys (a .keys) k) (m / g₀ .p)) d (m % g₀ .p)) (headers (m / g₀ .p) (row m hi))))
         ∙ a .tables;
   },

@@ -1,6 +1,6 @@
 -- The refusals of each call, in their order: the number that the model's chain gives is that of the first rule that holds.
 -- Assumes nothing.
-use Prim.Native.Nat.{ℕ, zero, suc, _+_, _*_, _/_, _≤_, _<_}
+use Prim.Native.Nat.{ℕ, zero, suc, _+_, _*_, _/_, _%_, _≤_, _<_}
 use mathlib.Core.Path.{_≡_, sym}
 use mathlib.Core.Logic.{_⊎_, inl, inr, ⊎-elim}
 use mathlib.Core.Bool.{not}
@@ -11,20 +11,21 @@ use lib.Dec.{ltb, eqb}
 use Rattle.refusals.specs.Numbers.{refuse}
 use Rattle.model.specs.declared.Geometry.{Geometry}
 use Rattle.model.specs.declared.Session.{Session}
-use Rattle.model.specs.Geometry.{badGeometry, deviceLength, Allowed}
-use Rattle.model.specs.Session.{Held, geometry, unmapped, entryOf, badEntry, standing, asked, short}
+use Rattle.model.specs.Geometry.{badGeometry, countIn, badCount, anyBadCount, deviceLength, Allowed}
+use Rattle.model.specs.Session.{Held, geometry, blockCount, unmapped, entryOf, badEntry, badEntryAt, standing, asked, short}
 use Rattle.model.specs.Opening.{member, missing, openRefusal}
 use Rattle.model.specs.Read.{readRefusal}
 use Rattle.model.specs.Write.{writeRefusal}
 use Rattle.model.specs.Close.{anyBad, closeRefusal}
 use Rattle.model.specs.Format.{formatNeed, formatRefusal}
-use Rattle.model.specs.Conditions.{Usable, TablesFit, EntryFits, Enough, sliceAt, Names}
+use Rattle.model.specs.Conditions.{CountFits, CountsFit, Counted, Usable, TablesFit, EntryFits, EntryFitsAt, Enough, sliceAt, Names}
 use Rattle.model.proofs.Tests.{below}
 use Rattle.model.proofs.Requests.{short-false, short-true, Formattable}
 use Rattle.guarantees.specs.Rules.{Rule, rule}
 use Rattle.guarantees.specs.Rules.{standingRules, askedRules, openRules, formatTape, formatRules, readRules, closeRules}
 use Rattle.guarantees.proofs.Reflects.{Reflects, fails, ltb-reflects, leb-reflects, eqb-reflects, bool-reflects, reflects-map, or-reflects}
-use Rattle.guarantees.proofs.Reflects.{Refutes, refuted, not-refutes, ltb-refutes, Below, below-zero-refutes, below-suc-refutes}
+use Rattle.guarantees.proofs.Reflects.{and-reflects, Refutes, refuted, not-refutes, ltb-refutes, or-refutes}
+use Rattle.guarantees.proofs.Reflects.{Below, below-zero-refutes, below-suc-refutes, anyBelow-refutes}
 use Rattle.guarantees.proofs.Chains.{Guards, refuse-guards, guards-map, guards-both, Leads, none, leads-refuse, leads-row}
 use Rattle.guarantees.proofs.Chains.{Comes, comes-map, comes-rest, comes-rule, comes-row}
 
@@ -33,7 +34,7 @@ use Rattle.guarantees.proofs.Chains.{Comes, comes-map, comes-rest, come
 differ-guards : (n x y : ℕ) → Guards (refuse (not (eqb x y)) n) n (x ≡ y)
 differ-guards n x y = refuse-guards n (not-refutes (eqb-reflects x y))
 
-pub badGeometry-guards : (n : ℕ) (g : Geometry) → Guards (badGeometry n g) n (Allowed g)
+badGeometry-guards : (n : ℕ) (g : Geometry) → Guards (badGeometry n g) n (Allowed g)
 unfolding badGeometry
 badGeometry-guards n g =
     guards-map
@@ -47,6 +48,20 @@ badGeometry-guards n g =
 
 badEntry-refutes : (g : Geometry) (x : ℕ) → Refutes (EntryFits g x) (badEntry (g .p) x)
 badEntry-refutes g x = not-refutes (or-reflects (eqb-reflects x unmapped) (ltb-reflects x (g .p)))
+
+-- The same at an index of the map table (document 02, P4).
+badEntryAt-refutes : (p : ℕ) (counts : List ℕ) (n x : ℕ) → Refutes (EntryFitsAt p counts n x) (badEntryAt p counts n x)
+badEntryAt-refutes p counts n x =
+    not-refutes (or-reflects (eqb-reflects x unmapped)
+    (and-reflects (ltb-reflects x p) (ltb-reflects (n % p) (countIn counts (n / p)))))
+
+pub badCount-refutes : (p n : ℕ) → Refutes (CountFits p n) (badCount p n)
+badCount-refutes p n = or-refutes (ltb-refutes n 1) (ltb-refutes p n)
+
+anyBadCount-refutes : (p : ℕ) (counts : List ℕ) (n : ℕ) → Refutes (CountsFit p counts n) (anyBadCount p counts n)
+unfolding anyBadCount
+anyBadCount-refutes p counts n =
+    anyBelow-refutes (λ i. CountFits p (countIn counts i)) _ (λ i. badCount-refutes p (countIn counts i)) n
 
 pub short-refutes : (tape position need : ℕ) → Refutes (Enough tape position need) (short tape position need)
 short-refutes tape position need = refuted (short tape position need) (short-true tape position need) (short-false tape position need)
@@ -76,24 +91,26 @@ pub missing-refutes : (n : ℕ) (perm : List ℕ) → Refutes (Below n (Named pe
 missing-refutes zero perm = below-zero-refutes (Named perm)
 missing-refutes (suc n) perm = below-suc-refutes (Named perm) n (missing-refutes n perm) (not-refutes (member-reflects n perm))
 
-anyBad-refutes : (g : Geometry) (maps : List ℕ) (n : ℕ) → Refutes (Below n (λ m. EntryFits g (getD maps m 0))) (anyBad (g .p) maps n)
+anyBad-refutes : (p : ℕ) (counts maps : List ℕ) (n : ℕ)
+    → Refutes (Below n (λ m. EntryFitsAt p counts m (getD maps m 0))) (anyBad p counts maps n)
 unfolding anyBad
-anyBad-refutes g maps zero = below-zero-refutes (λ m. EntryFits g (getD maps m 0))
-anyBad-refutes g maps (suc n) =
-    below-suc-refutes (λ m. EntryFits g (getD maps m 0)) n (anyBad-refutes g maps n) (badEntry-refutes g (getD maps n 0))
+anyBad-refutes p counts maps n =
+    anyBelow-refutes (λ m. EntryFitsAt p counts m (getD maps m 0)) _ (λ m. badEntryAt-refutes p counts m (getD maps m 0)) n
 
 -- ---- the orders
 
 usable-guards : (s : Session)
     → Guards (λ rest. refuse (not (s .opened)) 20 (badGeometry 20 (s .geometry)
-    (refuse (ltb 14 (s .k)) 20 (refuse (ltb (s .geometry .p) (s .start)) 20 rest)))) 20 (Usable s)
+    (refuse (ltb 14 (s .k)) 20 (refuse (ltb (s .geometry .p) (s .start)) 20
+    (refuse (anyBadCount (s .geometry .p) (s .counts) (s .k + 1)) 20 rest))))) 20 (Usable s)
 usable-guards s =
-    guards-map (λ p. record { opened = p .0; allowed = p .1 .0; top = p .1 .1 .0; place = p .1 .1 .1 })
-    (λ u. (u .opened, (u .allowed, (u .top, u .place))))
+    guards-map (λ p. record { opened = p .0; allowed = p .1 .0; top = p .1 .1 .0; place = p .1 .1 .1 .0; counted = p .1 .1 .1 .1 })
+    (λ u. (u .opened, (u .allowed, (u .top, (u .place, u .counted)))))
     (guards-both (refuse-guards 20 (not-refutes (bool-reflects (s .opened))))
     (guards-both (badGeometry-guards 20 (s .geometry))
     (guards-both (refuse-guards 20 (ltb-refutes 14 (s .k)))
-    (refuse-guards 20 (ltb-refutes (s .geometry .p) (s .start))))))
+    (guards-both (refuse-guards 20 (ltb-refutes (s .geometry .p) (s .start)))
+    (refuse-guards 20 (anyBadCount-refutes (s .geometry .p) (s .counts) (s .k + 1)))))))
 
 tables-guards : (g : Geometry) (maps owners : ℕ)
     → Guards (λ rest. refuse (not (eqb maps (15 * g .p))) 4 (refuse (not (eqb owners (g .p))) 4 rest)) 4 (TablesFit g maps owners)
@@ -117,7 +134,7 @@ asked-leads : (maps : List ℕ) (s : Session) (i a len : ℕ) → Leads (askedRu
 unfolding asked
 asked-leads maps s i a len =
     leads-refuse 11 (ltb-reflects (s .k) i)
-    (leads-refuse 12 (leb-reflects (s .geometry .p * s .geometry .s) a)
+    (leads-refuse 12 (leb-reflects (blockCount s i) a)
     (leads-row (differ-guards 13 len (s .geometry .b))
     (leads-row (refuse-guards 9 (badEntry-refutes (s .geometry) (entryOf maps (s .geometry) i a)))
     none)))
@@ -155,19 +172,35 @@ pub close-leads : (device : ℕ) (h : Held) (tape : ℕ) → Leads (closeRules d
 unfolding closeRefusal
 close-leads device h tape =
     standing-leads device (length (h .maps)) (length (h .owners)) (h .session)
-    (leads-row (refuse-guards 9 (anyBad-refutes (geometry h) (h .maps) ((h .session .k + 1) * geometry h .p)))
+    (leads-row (refuse-guards 9 (anyBad-refutes (geometry h .p) (h .session .counts) (h .maps) ((h .session .k + 1) * geometry h .p)))
     (leads-row (refuse-guards 21 (short-refutes tape (h .position) _))
     none))
 
 -- ---- formatting
 
-pub format-comes : (device : ℕ) (g : Geometry) (n keys tape position rest : ℕ)
-    → Comes (formatRules device g n keys tape position) (Formattable device g n keys tape position) rest
-    (formatRefusal device g n keys tape position rest)
+-- The geometry, and a count for each key.
+pub counted-guards : (g : Geometry) (n : ℕ) (counts : List ℕ)
+    → Guards (λ rest. badGeometry 1 g (refuse (not (eqb (length counts) n)) 1 (refuse (anyBadCount (g .p) counts n) 1 rest))) 1
+    (Allowed g × Counted (g .p) n counts)
+counted-guards g n counts =
+    guards-both (badGeometry-guards 1 g)
+    (guards-both (differ-guards 1 (length counts) n) (refuse-guards 1 (anyBadCount-refutes (g .p) counts n)))
+
+pub format-comes : (device : ℕ) (g : Geometry) (n keys : ℕ) (counts : List ℕ) (tape position rest : ℕ)
+    → Comes (formatRules device g n keys counts tape position) (Formattable device g n keys counts tape position) rest
+    (formatRefusal device g n keys counts tape position rest)
 unfolding formatRefusal formatNeed
-format-comes device g n keys tape position rest =
-    comes-map (λ p. record { allowed = p .0; long = p .1 .0; count = p .1 .1 .0; keyed = p .1 .1 .1 .0; enough = p .1 .1 .1 .1 .0 })
-    (comes-row (badGeometry-guards 1 g)
+format-comes device g n keys counts tape position rest =
+    comes-map
+    (λ p. record {
+      allowed = p .0 .0;
+      counted = p .0 .1;
+      long = p .1 .0;
+      count = p .1 .1 .0;
+      keyed = p .1 .1 .1 .0;
+      enough = p .1 .1 .1 .1 .0;
+    })
+    (comes-row (counted-guards g n counts)
     (comes-row (differ-guards 2 device (deviceLength g))
     (comes-rule out (λ o. ⊎-elim (λ e p. omega (arith, p .0)) (λ l p. omega (arith, p .1)) o)
     (guards-both (refuse-guards 23 (ltb-refutes n 1)) (refuse-guards 23 (ltb-refutes 15 n)))

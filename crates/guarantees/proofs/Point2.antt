@@ -12,25 +12,25 @@ use Rattle.refusals.specs.Numbers.{refuse}
 use Rattle.model.specs.declared.Geometry.{Geometry}
 use Rattle.model.specs.Parts.{part, overlay, patched}
 use Rattle.model.specs.Geometry.{sliceStart, ivStart, blockStart, Allowed}
-use Rattle.model.specs.Session.{Held, Outcome, geometry, keyOf, blockCount, sliceOf, offsetOf, unmapped, asked, idle, startingAt}
+use Rattle.model.specs.Session.{Held, Outcome, geometry, keyOf, countOf, blockCount, sliceOf, offsetOf, unmapped, asked, idle, startingAt}
 use Rattle.model.specs.Read.{deciphered, blockOf, readRefusal, readModel, findModel}
 use Rattle.model.specs.Write.{WriteResult, rewritten, claimed, full, claimedBytes, writeRefusal, writeModel}
 use Rattle.model.specs.Close.{CloseResult, closeModel}
 use Rattle.guarantees.specs.Runs.{State, Call, Reading, Finding, Writing, Closing, Writes, outcome, next, events, final, left}
-use Rattle.model.specs.Conditions.{Usable, EntryFits, Enough}
+use Rattle.model.specs.Conditions.{Usable, EntryFitsAt, Enough}
 use Rattle.guarantees.specs.Rules.{closeRules, heldEntry, FreeAt}
 use Rattle.guarantees.specs.Arrays.{Arrays, put, arraysAfter, arraysAfterAll, Fits, Unfit, ReadDue, FindDue, found, nowhere}
 use Rattle.guarantees.specs.Arrays.{WriteDue, rewrite-short, claim-short, no-slice, CloseDue, done, close-short, Due, AllDue}
 use Rattle.model.proofs.Parts.{part-length, overlay-before, overlay-length, patched-length}
 use Rattle.model.proofs.Tests.{equal}
-use Rattle.model.proofs.Bounds.{sliceOf-lt, offsetOf-lt}
-use Rattle.model.proofs.Requests.{readRefusal-none, readRefusal-served}
+use Rattle.model.proofs.Bounds.{offsetOf-lt}
+use Rattle.model.proofs.Requests.{readRefusal-none, readRefusal-served, asked-slice}
 use Rattle.model.proofs.Blocks.{deciphered-unmapped}
 use Rattle.guarantees.proofs.Reflects.{ltb-reflects, eqb-reflects, bool-reflects, reflects-stable, choose-reflects}
 use Rattle.guarantees.proofs.Chains.{Leads, here, later}
 use Rattle.guarantees.proofs.Orders.{earlyRules, write-leads, close-leads}
 use Rattle.guarantees.proofs.Places.{slice-first}
-use Rattle.guarantees.proofs.SoundTables.{SoundTables, OpenVolume, tableEntry}
+use Rattle.guarantees.proofs.SoundTables.{SoundTables, OpenVolume, tableEntry, sound-fits}
 use Rattle.guarantees.proofs.Blocks.{same-address, restored-here, restored-other, claimedText}
 use Rattle.guarantees.proofs.Blocks.{filled-here, filled-other}
 use Rattle.guarantees.proofs.Cases.{unless-cases, Stands, Asked, Ready, readRefusalOf, writeRefusalOf}
@@ -58,7 +58,7 @@ pub record Open (first : State) (arrays : Arrays) (st : State) : Type 0 where
   pub sound : SoundTables (st .held)
   pub session : st .held .session ≡ startingAt (st .held .session .start) (first .held .session)
   pub header : (a n : ℕ) → a + n ≤ sliceStart (geometry (st .held)) 0 → part a n (st .device) ≡ part a n (first .device)
-  pub holds : (j b : ℕ) → OpenVolume (st .held) j → b < blockCount (geometry (st .held)) j → arrays j b ≡ arraysOf st j b
+  pub holds : (j b : ℕ) → OpenVolume (st .held) j → b < blockCount (st .held .session) j → arrays j b ≡ arraysOf st j b
 
 abbrev pub Kept : State → Arrays → State → Type 0
 Kept first arrays st = st .held .session .opened ≡ true → Open first arrays st
@@ -94,12 +94,18 @@ module _ (first : State) (device : List ℕ) (h : Held) (i a : ℕ) (text perm t
     hj : j₀ < g .s
     hj = offsetOf-lt g ok a
 
+    below : σ < countOf (h .session) i
+    below = asked-slice (w .stands) (w .asked .volume) (w .asked .address) .0
+
+    inside : (j b : ℕ) → OpenVolume h j → b < blockCount (h .session) j → sliceOf g b < g .p
+    inside j b oj hb = omega (arith, asked-slice (w .stands) oj hb)
+
     hσ : σ < g .p
-    hσ = sliceOf-lt g ok a (w .asked .address)
+    hσ = inside i a (w .asked .volume) (w .asked .address)
 
     -- A session that was moved on in places.
     starts : (n : ℕ) → n ≤ g .p → Usable (startingAt n (h .session))
-    starts n l = let u = w .stands .usable in record { opened = u .opened; allowed = u .allowed; top = u .top; place = l }
+    starts n l = let u = w .stands .usable in record { opened = u .opened; allowed = u .allowed; top = u .top; place = l; counted = u .counted }
 
     restarted : (n : ℕ) → startingAt n (h .session) ≡ startingAt n (first .held .session)
     restarted n = ap (startingAt n) (op .session)
@@ -151,13 +157,14 @@ module _ (first : State) (device : List ℕ) (h : Held) (i a : ℕ) (text perm t
             rw (e .0, e .1) (put-here arrays i a text
             ∙ sym (restored-here g ok device (key i) iv text (heldEntry h i a) j₀ l hj (w .stands .long) ivl (w .asked .size)))
 
-        other : (j b : ℕ) → OpenVolume h j → b < blockCount g j → (j ≡ i → b ≡ a → ⊥) → put arrays i a text j b ≡ arraysOf (left device o) j b
+        other : (j b : ℕ) → OpenVolume h j → b < blockCount (h .session) j → (j ≡ i → b ≡ a → ⊥)
+            → put arrays i a text j b ≡ arraysOf (left device o) j b
         other j b oj hb ne =
             put-other arrays i a text j b ne
             ∙ op .holds j b oj hb
             ∙ sym (restored-other g ok device (key i) iv text (heldEntry h i a) j₀ l hj (w .stands .long) ivl (w .asked .size)
             (key j) (heldEntry h j b) (offsetOf g b) (offsetOf-lt g ok b)
-            (λ e f. let q = op .sound .apart .once i σ j (sliceOf g b) (w .asked .volume) oj hσ (sliceOf-lt g ok b hb) l (sym e) in
+            (λ e f. let q = op .sound .apart .once i σ j (sliceOf g b) (w .asked .volume) oj hσ (inside j b oj hb) l (sym e) in
             ne (sym (q .0)) (same-address g b a (sym (q .1)) f)))
 
     module _ (ψ place : ℕ) (un : heldEntry h i a ≡ unmapped) (f : FreeAt h perm place) (hψ : ψ < g .p) (free : getD (h .owners) ψ 0 ≡ 0)
@@ -182,18 +189,18 @@ module _ (first : State) (device : List ℕ) (h : Held) (i a : ℕ) (text perm t
       old = filled-other g (key i) ivs text j₀ ivsl (w .asked .size) ok device (w .stands .long) ψ hψ
 
       entry-now : tableEntry (o .held) i σ ≡ ψ
-      entry-now = claimed-entry (length device) h i σ j₀ ψ place text tape (w .stands) (w .asked .volume) hσ
+      entry-now = claimed-entry (length device) h i σ j₀ ψ place text tape (w .stands) (w .asked .volume) below
 
       large : g .p ≤ unmapped
       large = omega (arith, ok .slices-most)
 
-      now-is : (j b : ℕ) → OpenVolume h j → b < blockCount g j
+      now-is : (j b : ℕ) → OpenVolume h j → b < blockCount (h .session) j
           → put arrays i a text j b ≡ deciphered g (key j) (tableEntry (o .held) j (sliceOf g b)) (offsetOf g b) device′
       now-is j b oj hb =
           ⊎-elim (λ e. ⊎-elim (mine e) (λ d. others (λ p q. d q)) (equal (sliceOf g b) σ)) (λ d. others (λ p q. d p)) (equal j i)
         where
           hb′ : sliceOf g b < g .p
-          hb′ = sliceOf-lt g ok b hb
+          hb′ = inside j b oj hb
 
           -- Another logical slice.
           others : (j ≡ i → sliceOf g b ≡ σ → ⊥)
@@ -201,9 +208,10 @@ module _ (first : State) (device : List ℕ) (h : Held) (i a : ℕ) (text perm t
           others ne =
               put-other arrays i a text j b (λ p q. ne p (ap (sliceOf g) q))
               ∙ op .holds j b oj hb
-              ∙ rw (claimed-entry-other (length device) h i σ j₀ ψ place text tape (w .stands) (w .asked .volume) hσ j (sliceOf g b) hb′ ne)
+              ∙ rw (claimed-entry-other (length device) h i σ j₀ ψ place text tape (w .stands) (w .asked .volume) below j (sliceOf g b) hb′ ne)
               (sym (old (key j) (heldEntry h j b) (offsetOf g b) (offsetOf-lt g ok b)
-              (claimed-new (length device) h i σ j₀ ψ place text tape (w .stands) (w .asked .volume) hσ (op .sound) hψ free j (sliceOf g b) oj hb′)))
+              (claimed-new (length device) h i σ j₀ ψ place text tape (w .stands) (w .asked .volume) below (op .sound) hψ free j (sliceOf g b)
+              oj hb′)))
 
           -- The claimed one.
           mine : j ≡ i → sliceOf g b ≡ σ
@@ -229,7 +237,7 @@ module _ (first : State) (device : List ℕ) (h : Held) (i a : ℕ) (text perm t
                   long = overlay-length device _ _ ∙ w .stands .long;
                   tables = (length-set (h .maps) _ ψ ∙ w .stands .tables .0, length-set (h .owners) ψ (i + 1) ∙ w .stands .tables .1);
                 };
-            sound = claimed-sound (length device) h i σ j₀ ψ place text tape (w .stands) (w .asked .volume) hσ (op .sound) hψ free un;
+            sound = claimed-sound (length device) h i σ j₀ ψ place text tape (w .stands) (w .asked .volume) below (op .sound) hψ free un;
             session = restarted (place + 1);
             header = λ x n fits. overlay-before device (sliceStart g ψ) _ x n (omega (arith, slice-first g ψ)) ∙ op .header x n fits;
             holds = now-is;
@@ -268,7 +276,7 @@ module _ (first : State) (st : State) (arrays : Arrays) (kept : Kept first array
           volume = f .volume;
           address = f .address;
           size = f .size;
-          mapped = op .sound .whole i (sliceOf g₀ a) (f .volume) (sliceOf-lt g₀ (op .stands .usable .allowed) a (f .address));
+          mapped = sound-fits (op .sound) i (sliceOf g₀ a) (f .volume) (omega (arith, asked-slice (op .stands) (f .volume) (f .address)));
         };
       }
 
@@ -298,7 +306,9 @@ module _ (first : State) (st : State) (arrays : Arrays) (kept : Kept first array
             rw q (Unfit.size (live u) (many p) (omega arith) (omega arith) f)
         go (later u (later l (later t (later p (later v (later w (later s (here f q c)))))))) =
             let op = kept (live u) in
-            absurd (f (op .sound .whole i (sliceOf g₀ a) (omega arith) (sliceOf-lt g₀ (op .stands .usable .allowed) a (omega arith))))
+            let volume : OpenVolume h₀ i = omega arith in
+            let address : a < blockCount (h₀ .session) i = omega arith in
+            absurd (f (sound-fits (op .sound) i (sliceOf g₀ a) volume (omega (arith, asked-slice (op .stands) volume address))))
 
   -- A read is refused as a write with a permutation of P places.
   read-unfit : (i a len r : ℕ) → readRefusalOf n h₀ i a len ≡ suc r → Unfit h₀ (g₀ .p) i a len (suc r)
@@ -344,7 +354,8 @@ module _ (first : State) (st : State) (arrays : Arrays) (kept : Kept first array
       close-cases n h₀ tape (λ (o : Outcome CloseResult). CloseDue h₀ tape (o .answer))
       (λ r e. go r (rw e at (close-leads n h₀ (length tape)))) (λ s enough. done (s .usable .opened) enough)
     where
-      entries-fit : h₀ .session .opened ≡ true → (m : ℕ) → m < (h₀ .session .k + 1) * g₀ .p → EntryFits g₀ (getD (h₀ .maps) m 0)
+      entries-fit : h₀ .session .opened ≡ true → (m : ℕ) → m < (h₀ .session .k + 1) * g₀ .p
+          → EntryFitsAt (g₀ .p) (h₀ .session .counts) m (getD (h₀ .maps) m 0)
       entries-fit o m l =
           let op = kept o in
           let some = op .stands .usable .allowed .slices-least in

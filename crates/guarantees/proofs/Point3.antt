@@ -22,12 +22,12 @@ use Rattle.guarantees.specs.Rules.{heldEntry, FreeAt}
 use Rattle.guarantees.specs.Points.{EqualRuns}
 use Rattle.model.proofs.Parts.{part-length, part-agree, patched-length}
 use Rattle.model.proofs.Tests.{below}
-use Rattle.model.proofs.Bounds.{sliceOf-lt, offsetOf-lt, block-within, iv-within-slice}
-use Rattle.model.proofs.Requests.{readRefusal-none}
+use Rattle.model.proofs.Bounds.{offsetOf-lt, block-within, iv-within-slice}
+use Rattle.model.proofs.Requests.{readRefusal-none, asked-slice}
 use Rattle.guarantees.proofs.Patches.{rangesOf, patched-both, patched-written}
 use Rattle.guarantees.proofs.SoundTables.{OpenVolume, tableEntry}
 use Rattle.guarantees.proofs.Blocks.{deciphered-same, claimed-length}
-use Rattle.guarantees.proofs.Cases.{Asked, readRefusalOf, Writable, write-stores, close-cases}
+use Rattle.guarantees.proofs.Cases.{Stands, Asked, readRefusalOf, Writable, write-stores, close-cases}
 use Rattle.guarantees.proofs.Claims.{claimed-entry-cases}
 use Rattle.guarantees.proofs.Stored.{stores, run-patched, run-ranges}
 
@@ -53,14 +53,18 @@ module _ (s t : List ℕ) (h : Held) (alike : Alike (record { device = s; held =
   still ps = patched-length ps s ∙ alike .long ∙ sym (patched-length ps t)
 
   -- A block of an open volume is the same on both.
-  module _ (i a len : ℕ) (ok : Allowed g) (asked : Asked h i a len) (l : heldEntry h i a < g .p) where
+  module _ (i a len : ℕ) (st : Stands (length s) h) (asked : Asked h i a len) (l : heldEntry h i a < g .p) where
+    ok : Allowed g
+    ok = st .usable .allowed
+
     abbrev ψ₀ : ℕ
     ψ₀ = heldEntry h i a
 
     same-part : (x n : ℕ) → x + n ≤ sliceSize g → part (sliceStart g ψ₀ + x) n s ≡ part (sliceStart g ψ₀ + x) n t
     same-part x n fits =
         part-agree 0 s t (sliceStart g ψ₀ + x) n (alike .long)
-        (λ p lo hi. alike .slices i (sliceOf g a) (asked .volume) (sliceOf-lt g ok a (asked .address)) l p (omega arith) (omega arith))
+        (λ p lo hi. alike .slices i (sliceOf g a) (asked .volume) (omega (arith, asked-slice st (asked .volume) (asked .address))) l p
+        (omega arith) (omega arith))
 
     same-iv : part (ivStart g ψ₀ (offsetOf g a)) 16 s ≡ part (ivStart g ψ₀ (offsetOf g a)) 16 t
     unfolding ivStart
@@ -71,7 +75,7 @@ module _ (s t : List ℕ) (h : Held) (alike : Alike (record { device = s; held =
     same-data = same-part (g .b * (1 + offsetOf g a)) (g .b) (block-within g ok _ (offsetOf-lt g ok a))
 
   -- What is given only where a read is not refused is the same on both, if it is where the read is served.
-  same-unless : {A : Type 0} (i a len : ℕ) (refusal : ℕ → A) (f : List ℕ → A) → (Allowed g → Asked h i a len → f s ≡ f t)
+  same-unless : {A : Type 0} (i a len : ℕ) (refusal : ℕ → A) (f : List ℕ → A) → (Stands (length s) h → Asked h i a len → f s ≡ f t)
       → unless (readRefusalOf (length s) h i a len) refusal (f s) ≡ unless (readRefusalOf (length t) h i a len) refusal (f t)
   same-unless i a len refusal f same =
       go (readRefusalOf (length s) h i a len) refl ∙ ap (λ (n : ℕ). unless (readRefusalOf n h i a len) refusal (f t)) (alike .long)
@@ -80,22 +84,22 @@ module _ (s t : List ℕ) (h : Held) (alike : Alike (record { device = s; held =
           → unless (readRefusalOf (length s) h i a len) refusal (f s) ≡ unless (readRefusalOf (length s) h i a len) refusal (f t)
       go zero e =
           let q = readRefusal-none (length s) _ _ _ i a len e in
-          ap (unless (readRefusalOf (length s) h i a len) refusal) (same (q .stands .usable .allowed) (q .asked))
+          ap (unless (readRefusalOf (length s) h i a len) refusal) (same (q .stands) (q .asked))
       go (suc r) e = rw e refl
 
   read-same : (i a room : ℕ) → readModel s (h .maps) (h .owners) (h .session) i a room ≡ readModel t (h .maps) (h .owners) (h .session) i a room
   unfolding readModel
   read-same i a room =
       same-unless i a room ReadResult.Refused (λ x. ReadResult.Filled (blockOf x (h .maps) (h .session) i a))
-      (λ ok q. ap ReadResult.Filled (deciphered-same g (keyOf (h .session) i) (heldEntry h i a) (offsetOf g a) s t
-      (λ l. (same-iv i a room ok q l, same-data i a room ok q l))))
+      (λ st q. ap ReadResult.Filled (deciphered-same g (keyOf (h .session) i) (heldEntry h i a) (offsetOf g a) s t
+      (λ l. (same-iv i a room st q l, same-data i a room st q l))))
 
   find-same : (i a : ℕ) → findModel s (h .maps) (h .owners) (h .session) i a ≡ findModel t (h .maps) (h .owners) (h .session) i a
   unfolding findModel
   find-same i a =
       same-unless i a (g .b) (λ n. [])
       (λ x. choose (ltb (heldEntry h i a) (g .p)) (part (blockStart g (heldEntry h i a) (offsetOf g a)) (g .b) x) [])
-      (λ ok q. ⊎-elim (λ l. rw (lt-ltb (heldEntry h i a) (g .p) l) (same-data i a (g .b) ok q l))
+      (λ st q. ⊎-elim (λ l. rw (lt-ltb (heldEntry h i a) (g .p) l) (same-data i a (g .b) st q l))
       (λ l. rw (le-ltb (heldEntry h i a) (g .p) l) refl) (below (heldEntry h i a) (g .p)))
 
   same-outcome : (c : Call) → outcome (record { device = s; held = h }) c ≡ outcome (record { device = t; held = h }) c
@@ -152,7 +156,7 @@ module _ (s t : List ℕ) (h : Held) (alike : Alike (record { device = s; held =
               (λ c. patched-both p (o .patches) s t (alike .long)
               (alike .slices j τ oj hτ (rw (c .1) at m) p (rw (c .1) at lo) (rw (c .1) at hi)))
               (claimed-entry-cases (length s) h i (sliceOf g a) (offsetOf g a) ψ place text tape (w .stands) (w .asked .volume)
-              (sliceOf-lt g (w .stands .usable .allowed) a (w .asked .address)) j τ hτ)
+              (asked-slice (w .stands) (w .asked .volume) (w .asked .address) .0) j τ hτ)
 
   -- After a close nothing is mapped.
   close-after : (tape : List ℕ) → After (closeModel (length s) h tape)

@@ -19,11 +19,10 @@ use Rattle.guarantees.specs.Arrays.{Arrays, arraysAfterAll, AllDue}
 use Rattle.guarantees.specs.Openings.{AllUnlocked}
 use Rattle.guarantees.specs.Points.{Handed, Lent, opens, holds, begin, mapEntry, firstArrays, Opens, Run, Agree, EqualRuns}
 use Rattle.guarantees.specs.Points.{Points23, NoSliceTwice}
-use Rattle.model.proofs.Bounds.{sliceOf-lt}
+use Rattle.model.proofs.Requests.{asked-slice}
 use Rattle.guarantees.proofs.SoundTables.{tableEntry}
 use Rattle.guarantees.proofs.Opened.{holding, Served, served, served-is, openedBy, served-sound, served-stands, served-opens, served-entry}
-use Rattle.guarantees.proofs.Opened.{served-taken, served-cell, served-same}
-use Rattle.guarantees.proofs.Keys.{served-keys}
+use Rattle.guarantees.proofs.Opened.{served-taken, served-cell, served-keys, served-same}
 use Rattle.guarantees.proofs.Cases.{write-stores}
 use Rattle.guarantees.proofs.Point2.{Open, Kept, run-due}
 use Rattle.guarantees.proofs.Stored.{run-stored, run-held, run-kept}
@@ -56,7 +55,7 @@ module _ (s : List ℕ) (x : Handed) (l : Lent) (k : ℕ) (sv : Served s x l k) 
 
   -- Arrays that have, on the open volumes, what stands on the device.
   abbrev Begins : Arrays → OpenOutcome → Type 0
-  Begins arrays o = (j b : ℕ) → j ≤ k → b < blockCount g j → arrays j b ≡ arraysBy o j b
+  Begins arrays o = (j b : ℕ) → j ≤ k → b < blockCount (o .session) j → arrays j b ≡ arraysBy o j b
 
   begins : (arrays : Arrays) → Begins arrays (opens s x l) → Kept (begin s x l) arrays (begin s x l)
   begins arrays same live =
@@ -69,7 +68,7 @@ module _ (s : List ℕ) (x : Handed) (l : Lent) (k : ℕ) (sv : Served s x l k) 
         holds = λ j b oj hb.
             first j b oj hb
             ∙ ap (λ (ψ : ℕ). deciphered g (keyOf (openedBy s x l k sv .session) j) ψ (offsetOf g b) s)
-            (served-entry s x l k sv j (sliceOf g b) oj (sliceOf-lt g (served-taken s x l k sv .good) b hb));
+            (served-entry s x l k sv j (sliceOf g b) oj (omega (arith, asked-slice (served-stands s x l k sv) oj hb)));
       })
       same
 
@@ -154,7 +153,9 @@ points23 s x l k e =
     record {
       vmk = sv .vmk;
       lowest = served-cell s x l k sv;
-      keys = subst (λ (o : OpenOutcome). AllUnlocked s (x .geometry) k (sv .vmk) (o .session .keys)) (sym is) (served-keys s x l k sv);
+      keys =
+          subst (λ (o : OpenOutcome). AllUnlocked s (x .geometry) k (sv .vmk) (o .session .keys) (o .session .counts)) (sym is)
+          (served-keys s x l k sv);
       leaves =
           subst (λ (o : OpenOutcome). Opens x k (entriesBy s x l k sv o) (holding (x .position) o)) (sym is) (served-opens s x l k sv);
       array = run s x l k sv;

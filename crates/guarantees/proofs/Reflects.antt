@@ -1,13 +1,13 @@
 -- Tests that decide conditions. Assumes nothing.
-use Prim.Native.Nat.{ℕ, suc, _≤_, _<_}
+use Prim.Native.Nat.{ℕ, zero, suc, _≤_, _<_}
 use mathlib.Core.Path.{_≡_, refl, sym, subst, _∙_}
 use mathlib.Core.Logic.{_⊎_, inl, inr, ⊎-elim}
-use mathlib.Core.Bool.{Bool, true, false, not, _||_, false≢true}
+use mathlib.Core.Bool.{Bool, true, false, not, _||_, _&&_, false≢true}
 use native.Mathlib.Nat.{eq-or-lt-of-le, le-of-suc-le-suc}
 use native.Mathlib.Omega.{arith}
 use lib.Dec.{ltb, leb, eqb}
 use borrow.Author.Tests.{ltb-true, ltb-false, leb-true, leb-false, eqb-true, eqb-false}
-use Rattle.model.specs.Parts.{choose}
+use Rattle.model.specs.Parts.{choose, anyBelow}
 
 -- A test that is true exactly where A holds.
 pub data Reflects (A : Type 0) : Bool → Type 0 where
@@ -47,6 +47,11 @@ pub or-reflects : {A B : Type 0} {b c : Bool} → Reflects A b → Reflects B c 
 or-reflects (holds a) r = holds (inl a)
 or-reflects (fails f) (holds b) = holds (inr b)
 or-reflects (fails f) (fails g) = fails (⊎-elim f g)
+
+pub and-reflects : {A B : Type 0} {b c : Bool} → Reflects A b → Reflects B c → Reflects (A × B) (b && c)
+and-reflects (holds a) (holds b) = holds (a, b)
+and-reflects (holds a) (fails g) = fails (λ ab. g (ab .1))
+and-reflects (fails f) r = fails (λ ab. f (ab .0))
 
 -- ---- tests that are true where a condition fails
 
@@ -104,3 +109,9 @@ below-suc-refutes P n r q = refutes-map more fewer (or-refutes r q)
 
     fewer : Below (suc n) P → Below n P × P n
     fewer k = (λ m l. k m (omega arith), k n (omega arith))
+
+-- A test that finds the numbers below n where P fails.
+pub anyBelow-refutes : (P : ℕ → Type 0) (f : ℕ → Bool) → ((m : ℕ) → Refutes (P m) (f m)) → (n : ℕ) → Refutes (Below n P) (anyBelow f n)
+unfolding anyBelow
+anyBelow-refutes P f each zero = below-zero-refutes P
+anyBelow-refutes P f each (suc n) = below-suc-refutes P n (anyBelow-refutes P f each n) (each n)

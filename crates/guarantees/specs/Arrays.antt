@@ -1,6 +1,6 @@
 -- Point 2, call by call: each open volume is an array of blocks, and each request has the answer that it is
--- due. Assumes nothing.
-use Prim.Native.Nat.{ℕ, _≤_, _<_}
+-- due; volume i has N × S blocks (document 02, P4). Assumes nothing.
+use Prim.Native.Nat.{ℕ, _*_, _≤_, _<_}
 use mathlib.Core.Path.{_≡_}
 use mathlib.Core.List.{List, [], _∷_}
 use mathlib.Core.Bool.{true, _&&_}
@@ -8,7 +8,7 @@ use lib.ListN.{length}
 use lib.Dec.{eqb}
 use Rattle.model.specs.declared.Change.the-variants.{Claimed, Rewritten}
 use Rattle.model.specs.Parts.{choose}
-use Rattle.model.specs.Session.{Held, geometry, blockCount, unmapped}
+use Rattle.model.specs.Session.{Held, geometry, countOf, unmapped}
 use Rattle.model.specs.Read.{ReadResult}
 use Rattle.model.specs.Write.{WriteResult}
 use Rattle.model.specs.Close.{CloseResult}
@@ -45,7 +45,7 @@ pub record Fits (h : Held) (n i a len : ℕ) : Type 0 where
   pub opened : h .session .opened ≡ true
   pub places : n ≡ geometry h .p
   pub volume : i ≤ h .session .k
-  pub address : a < blockCount (geometry h) i
+  pub address : a < countOf (h .session) i * geometry h .s
   pub size : len ≡ geometry h .b
 
 -- The first of these that fails, by its refusal.
@@ -53,9 +53,10 @@ pub data Unfit (h : Held) (n i a len : ℕ) : ℕ → Type 0 where
   shut : (h .session .opened ≡ true → ⊥) → Unfit h n i a len 20
   places : h .session .opened ≡ true → (n ≡ geometry h .p → ⊥) → Unfit h n i a len 5
   volume : h .session .opened ≡ true → n ≡ geometry h .p → h .session .k < i → Unfit h n i a len 11
-  address : h .session .opened ≡ true → n ≡ geometry h .p → i ≤ h .session .k → blockCount (geometry h) i ≤ a → Unfit h n i a len 12
-  size : h .session .opened ≡ true → n ≡ geometry h .p → i ≤ h .session .k → a < blockCount (geometry h) i → (len ≡ geometry h .b → ⊥)
-      → Unfit h n i a len 13
+  address : h .session .opened ≡ true → n ≡ geometry h .p → i ≤ h .session .k → countOf (h .session) i * geometry h .s ≤ a
+      → Unfit h n i a len 12
+  size : h .session .opened ≡ true → n ≡ geometry h .p → i ≤ h .session .k → a < countOf (h .session) i * geometry h .s
+      → (len ≡ geometry h .b → ⊥) → Unfit h n i a len 13
 
 -- A read that fits is served with the array's block.
 pub data ReadDue (arrays : Arrays) (h : Held) (i a room : ℕ) : ReadResult → Type 0 where

@@ -1,6 +1,6 @@
 -- What each call stores on the device and what is held after it, from the request and its answer alone (document 01, "Write",
--- "Close" and "Two sticks compared": written places hold the bytes of the last call that wrote there; document 02, P2). The words are
--- the documents' and not the model's. Assumes nothing.
+-- "Close" and "Two sticks compared": written places hold the bytes of the last call that wrote there; document 02, P2 and P4). The words
+-- are the documents' and not the model's. Assumes nothing.
 use Prim.Native.Nat.{ℕ, zero, suc, _+_, _*_}
 use mathlib.Core.Path.{_≡_}
 use mathlib.Core.List.{List, [], _∷_, _++_}
@@ -32,7 +32,7 @@ closeBytes h = 16 * mapBlocks (geometry h) * (h .session .k + 1)
 
 -- A session with another start place, and one whose start place is moved on by so many places.
 abbrev pub withStart : Session → (start : ℕ) → Session
-withStart s start = record { geometry = s .geometry; k = s .k; keys = s .keys; opened = s .opened; start = start }
+withStart s start = record { geometry = s .geometry; k = s .k; keys = s .keys; opened = s .opened; start = start; counts = s .counts }
 
 abbrev pub movedOn : Session → (places : ℕ) → Session
 movedOn s places = withStart s (s .start + places)
@@ -40,7 +40,7 @@ movedOn s places = withStart s (s .start + places)
 -- A rewrite draws 16 tape bytes. A claim draws B, sets its entry and its owner, and moves the start place past the places that it
 -- looked at, to the claimed place plus one; a 22 moves it in the same way, to P (`Sets` in StartPlaces; document 02, P2). No other
 -- refusal changes anything. A close draws 16 for each map block and leaves marks, owners and keys 0, and a closed session with its
--- geometry, k and start place. Nothing else changes what is held.
+-- geometry, k, start place and counts (document 02, P4). Nothing else changes what is held.
 unfoldable pub heldAfter : Held → Event → Held
 heldAfter h (Writes i a text perm tape (WriteResult.Served (Rewritten ψ) probes)) =
     record { maps = h .maps; owners = h .owners; position = h .position + 16; session = h .session }
@@ -59,7 +59,14 @@ heldAfter h (Closes tape CloseResult.Closed) =
       owners = replicate (geometry h .p) 0;
       position = h .position + closeBytes h;
       session =
-          record { geometry = geometry h; k = h .session .k; keys = replicate 480 0; opened = false; start = h .session .start };
+          record {
+            geometry = geometry h;
+            k = h .session .k;
+            keys = replicate 480 0;
+            opened = false;
+            start = h .session .start;
+            counts = h .session .counts;
+          };
     }
 heldAfter h (Closes tape (CloseResult.Refused n)) = h
 heldAfter h (Reads i a room r) = h

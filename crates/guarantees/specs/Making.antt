@@ -1,4 +1,4 @@
--- Point 1 for formatting (document 02, P1): what is drawn and in which order, what then stands on the device, and when each
+-- Point 1 for formatting (document 02, P1 and P4): what is drawn and in which order, what then stands on the device, and when each
 -- answer is due. The words are the document's and not the model's. Assumes nothing.
 use Prim.Native.Nat.{ℕ, zero, suc, _+_, _-_, _*_, _<_}
 use mathlib.Core.Path.{_≡_}
@@ -8,7 +8,7 @@ use Rattle.ctr.specs.CounterMode.{ctr}
 use Rattle.gcm.specs.Gcm.{Text, WrongTag, gcmText, gcmTag}
 use Rattle.model.specs.declared.Geometry.{Geometry}
 use Rattle.model.specs.Parts.{part, joined}
-use Rattle.model.specs.Geometry.{deviceLength, mapBlocks, fourBytes, cellStart, headerStart, mapStart}
+use Rattle.model.specs.Geometry.{countIn, deviceLength, mapBlocks, fourBytes, cellStart, headerStart, mapStart}
 use Rattle.model.specs.Session.{keyIn}
 use Rattle.model.specs.Opening.{openCell}
 use Rattle.model.specs.Format.{FormatResult, Formatted}
@@ -56,15 +56,16 @@ madeRanges g (suc i) =
     ∷ record { at = mapStart g i; size = g .b * mapBlocks g }
     ∷ []
 
--- Cell i has VMK i sealed under key i with the byte i; header i has VEK i, the VMK below, P and S sealed under VMK i with the byte
+-- Cell i has VMK i sealed under key i with the byte i; header i has VEK i, the VMK below, count i and S sealed under VMK i with the byte
 -- 16 + i; each map block has its marks, B - 16 bytes FF, in counter mode under VEK i. Each has its own IV of those drawn. All else is noise.
-pub record Made (g : Geometry) (n : ℕ) (keys drawn : List ℕ) (d : Draws g n drawn) (device : List ℕ) : Type 0 where
+pub record Made (g : Geometry) (n : ℕ) (keys counts drawn : List ℕ) (d : Draws g n drawn) (device : List ℕ) : Type 0 where
   pub long : length device ≡ deviceLength g
   pub cell-iv : (i : ℕ) → i < n → part (cellStart i) 12 device ≡ d .cellIv i
   pub cell : (i : ℕ) → i < n → Sealed (keyIn keys i) i (cellStart i) 32 device (d .vmk i)
   pub header-iv : (i : ℕ) → i < n → part (headerStart g i) 12 device ≡ d .headerIv i
   pub header : (i : ℕ) → i < n
-      → Sealed (d .vmk i) (16 + i) (headerStart g i) 72 device (d .vek i ++ (belowOf (d .vmk) i ++ (fourBytes (g .p) ++ fourBytes (g .s))))
+      → Sealed (d .vmk i) (16 + i) (headerStart g i) 72 device
+      (d .vek i ++ (belowOf (d .vmk) i ++ (fourBytes (countIn counts i) ++ fourBytes (g .s))))
   pub map : (i t : ℕ) → i < n → t < mapBlocks g
       → part (mapStart g i + g .b * t) (g .b) device ≡ d .mapIv i t ++ ctr (d .vek i) (d .mapIv i t) (replicate (g .b - 16) 0xFF)
   pub noise : (p : ℕ) → (Within p (madeRanges g n) → ⊥) → getD device p 0 ≡ getD (d .noise) p 0
@@ -80,15 +81,15 @@ cellMade keys d j =
 
 -- Refused by 1, 2, 23, 3 or 21, the first rule that applies; by 24 where a key opens a lower cell as it will stand; else the
 -- device is made, and the position is past the bytes drawn.
-pub data FormatAnswered (device : ℕ) (g : Geometry) (n : ℕ) (keys tape : List ℕ) (position : ℕ) : FormatResult → Type 0 where
-  handed-wrong : (r : ℕ) → (r ≡ 0 → ⊥) → First (formatRules device g n (length keys) (length tape) position) r 0
-      → FormatAnswered device g n keys tape position (FormatResult.Refused r)
-  lower-cell : First (formatRules device g n (length keys) (length tape) position) 0 0
+pub data FormatAnswered (device : ℕ) (g : Geometry) (n : ℕ) (keys counts tape : List ℕ) (position : ℕ) : FormatResult → Type 0 where
+  handed-wrong : (r : ℕ) → (r ≡ 0 → ⊥) → First (formatRules device g n (length keys) counts (length tape) position) r 0
+      → FormatAnswered device g n keys counts tape position (FormatResult.Refused r)
+  lower-cell : First (formatRules device g n (length keys) counts (length tape) position) 0 0
       → (d : Draws g n (part position (formatTape g n) tape)) → (i j : ℕ) (vmk : List ℕ) → j < i → i < n
       → openCell (keyIn keys i) j (cellMade keys d j) ≡ Text vmk
-      → FormatAnswered device g n keys tape position (FormatResult.Refused 24)
-  served : First (formatRules device g n (length keys) (length tape) position) 0 0
+      → FormatAnswered device g n keys counts tape position (FormatResult.Refused 24)
+  served : First (formatRules device g n (length keys) counts (length tape) position) 0 0
       → (d : Draws g n (part position (formatTape g n) tape))
       → ((i j : ℕ) → j < i → i < n → openCell (keyIn keys i) j (cellMade keys d j) ≡ WrongTag)
-      → (made : List ℕ) → Made g n keys (part position (formatTape g n) tape) d made
-      → FormatAnswered device g n keys tape position (Formatted made (position + formatTape g n))
+      → (made : List ℕ) → Made g n keys counts (part position (formatTape g n) tape) d made
+      → FormatAnswered device g n keys counts tape position (Formatted made (position + formatTape g n))

@@ -1,5 +1,5 @@
 -- Point 1 for an opening: which refusal, or which volume, its cells, headers and maps give (document 01, "Opening" and
--- "Order at opening"). Assumes nothing.
+-- "Order at opening"; document 02, P4). Assumes nothing.
 use Prim.Native.Nat.{ℕ, suc, _+_, _*_, _≤_, _<_}
 use mathlib.Core.Path.{_≡_}
 use mathlib.Core.Logic.{_⊎_}
@@ -8,7 +8,8 @@ use mathlib.Core.Bool.{false}
 use lib.ListN.{length, replicate}
 use Rattle.gcm.specs.Gcm.{Text, WrongTag}
 use Rattle.model.specs.declared.Geometry.{Geometry}
-use Rattle.model.specs.Geometry.{numberAt, cellOf, headerOf}
+use Rattle.model.specs.Geometry.{countIn, numberAt, cellOf, headerOf}
+use Rattle.model.specs.Conditions.{CountFits, BelowCount}
 use Rattle.model.specs.Session.{unmapped, keyIn}
 use Rattle.model.specs.Opening.{OpenOutcome, OpenTo, NotOpened, openCell, openHeader, vekOf, vmkBelow, mapEntries}
 use Rattle.guarantees.specs.Rules.{First, openRules}
@@ -19,9 +20,9 @@ pub record Lowest (device key : List ℕ) (k : ℕ) (vmk : List ℕ) : Type 0 wh
   pub opens : openCell key k (cellOf device k) ≡ Text vmk
   pub below : (i : ℕ) → i < k → openCell key i (cellOf device i) ≡ WrongTag
 
--- The P and the S in a header's text are the geometry's.
+-- The first number after the keys in a header's text is 1 to P: it is N. The second is the geometry's S (document 02, P4).
 abbrev pub HeaderFits : Geometry → (text : List ℕ) → Type 0
-HeaderFits g text = (numberAt 64 text ≡ g .p) × (numberAt 68 text ≡ g .s)
+HeaderFits g text = CountFits (g .p) (numberAt 64 text) × (numberAt 68 text ≡ g .s)
 
 -- The headers k down to i + 1 open and fit, and the last of them gives the VMK of volume i.
 pub data Reached (device : List ℕ) (g : Geometry) (k : ℕ) (top : List ℕ) : (i : ℕ) → (vmk : List ℕ) → Type 0 where
@@ -29,22 +30,25 @@ pub data Reached (device : List ℕ) (g : Geometry) (k : ℕ) (top : List ℕ) :
   from-above : (i : ℕ) (vmk text : List ℕ) → Reached device g k top (suc i) vmk
       → openHeader vmk (suc i) (headerOf g device (suc i)) ≡ Text text → HeaderFits g text → Reached device g k top i (vmkBelow text)
 
--- The header of volume i opens and fits, and its text begins with this VEK.
-pub record Unlocked (device : List ℕ) (g : Geometry) (k : ℕ) (top : List ℕ) (i : ℕ) (vek : List ℕ) : Type 0 where
+-- The header of volume i opens and fits, its text begins with this VEK, and its N is this.
+pub record Unlocked (device : List ℕ) (g : Geometry) (k : ℕ) (top : List ℕ) (i : ℕ) (vek : List ℕ) (count : ℕ) : Type 0 where
   pub vmk : List ℕ
   pub text : List ℕ
   pub reached : Reached device g k top i vmk
   pub opens : openHeader vmk i (headerOf g device i) ≡ Text text
   pub fits : HeaderFits g text
   pub is : vek ≡ vekOf text
+  pub counts : count ≡ numberAt 64 text
 
--- Every header k down to 0 opens and fits, and keys has their VEKs end to end.
-abbrev pub AllUnlocked : (device : List ℕ) → Geometry → (k : ℕ) → (top keys : List ℕ) → Type 0
-AllUnlocked device g k top keys = (i : ℕ) → i ≤ k → Unlocked device g k top i (keyIn keys i)
+-- Every header k down to 0 opens and fits; keys has their VEKs end to end, and counts their N.
+abbrev pub AllUnlocked : (device : List ℕ) → Geometry → (k : ℕ) → (top keys counts : List ℕ) → Type 0
+AllUnlocked device g k top keys counts = (i : ℕ) → i ≤ k → Unlocked device g k top i (keyIn keys i) (countIn counts i)
 
--- Each of the first n entries is the mark, or a slice that no entry before it names.
-abbrev pub GoodEntries : (entries : ℕ → ℕ) → (p n : ℕ) → Type 0
-GoodEntries entries p n = (m : ℕ) → m < n → (entries m ≡ unmapped) ⊎ ((entries m < p) × ((l : ℕ) → l < m → entries l ≡ entries m → ⊥))
+-- Each of the first n entries is the mark, or a slice that stands below its volume's N and that no entry before it names.
+abbrev pub GoodEntries : (entries : ℕ → ℕ) → (p : ℕ) → (counts : List ℕ) → (n : ℕ) → Type 0
+GoodEntries entries p counts n =
+    (m : ℕ) → m < n
+    → (entries m ≡ unmapped) ⊎ ((entries m < p) × BelowCount p counts m × ((l : ℕ) → l < m → entries l ≡ entries m → ⊥))
 
 -- ---- the answer
 
@@ -59,7 +63,15 @@ refusedLeaving n maps owners =
       answer = NotOpened n;
       maps = maps;
       owners = owners;
-      session = record { geometry = record { b = 0; s = 0; p = 0 }; k = 0; keys = replicate 480 0; opened = false; start = 0 };
+      session =
+          record {
+            geometry = record { b = 0; s = 0; p = 0 };
+            k = 0;
+            keys = replicate 480 0;
+            opened = false;
+            start = 0;
+            counts = replicate 15 0;
+          };
     }
 
 -- By 6 to 10: 15 × P entries that are the mark, and P owners 0.
@@ -83,17 +95,19 @@ pub data OpenAnswered (device : List ℕ) (g : Geometry) (key maps owners perm :
       → openHeader vmk i (headerOf g device i) ≡ Text text → (HeaderFits g text → ⊥)
       → OpenAnswered device g key maps owners perm (refusedEmpty 8 g)
   bad-entry : Accepted device g key maps owners perm
-      → (k : ℕ) (top keys : List ℕ) → Lowest device key k top → AllUnlocked device g k top keys
-      → (n : ℕ) → n < (k + 1) * g .p → GoodEntries (mapEntries g (headerOf g device) keys) (g .p) n
-      → (mapEntries g (headerOf g device) keys n ≡ unmapped → ⊥) → g .p ≤ mapEntries g (headerOf g device) keys n
+      → (k : ℕ) (top keys counts : List ℕ) → Lowest device key k top → AllUnlocked device g k top keys counts
+      → (n : ℕ) → n < (k + 1) * g .p → GoodEntries (mapEntries g (headerOf g device) keys) (g .p) counts n
+      → (mapEntries g (headerOf g device) keys n ≡ unmapped → ⊥)
+      → ((mapEntries g (headerOf g device) keys n < g .p) × BelowCount (g .p) counts n → ⊥)
       → OpenAnswered device g key maps owners perm (refusedEmpty 9 g)
   slice-twice : Accepted device g key maps owners perm
-      → (k : ℕ) (top keys : List ℕ) → Lowest device key k top → AllUnlocked device g k top keys
-      → (n : ℕ) → n < (k + 1) * g .p → GoodEntries (mapEntries g (headerOf g device) keys) (g .p) n
-      → mapEntries g (headerOf g device) keys n < g .p
+      → (k : ℕ) (top keys counts : List ℕ) → Lowest device key k top → AllUnlocked device g k top keys counts
+      → (n : ℕ) → n < (k + 1) * g .p → GoodEntries (mapEntries g (headerOf g device) keys) (g .p) counts n
+      → (mapEntries g (headerOf g device) keys n < g .p) × BelowCount (g .p) counts n
       → (m : ℕ) → m < n → mapEntries g (headerOf g device) keys m ≡ mapEntries g (headerOf g device) keys n
       → OpenAnswered device g key maps owners perm (refusedEmpty 10 g)
   served : Accepted device g key maps owners perm
-      → (k : ℕ) (top : List ℕ) (o : OpenOutcome) → Lowest device key k top → AllUnlocked device g k top (o .session .keys)
-      → GoodEntries (mapEntries g (headerOf g device) (o .session .keys)) (g .p) ((k + 1) * g .p)
+      → (k : ℕ) (top : List ℕ) (o : OpenOutcome) → Lowest device key k top
+      → AllUnlocked device g k top (o .session .keys) (o .session .counts)
+      → GoodEntries (mapEntries g (headerOf g device) (o .session .keys)) (g .p) (o .session .counts) ((k + 1) * g .p)
       → o .answer ≡ OpenTo k → OpenAnswered device g key maps owners perm o

@@ -10,9 +10,9 @@ use Rattle.model.specs.declared.Geometry.{Geometry}
 use Rattle.model.specs.declared.Session.{Session}
 use Rattle.model.specs.declared.Change.the-variants.{Claimed, Rewritten}
 use Rattle.model.specs.Parts.{part, patched}
-use Rattle.model.specs.Geometry.{Allowed, deviceLength, cellOf, headerOf, sliceStart, sliceSize}
-use Rattle.model.specs.Session.{Held, held, geometry, keyIn, keyOf, blockCount, entry, entryOf, sliceOf, offsetOf, unmapped}
-use Rattle.model.specs.Conditions.{TablesFit, Enough, AllHeld, FirstFree, Names, sliceAt}
+use Rattle.model.specs.Geometry.{Allowed, countIn, deviceLength, cellOf, headerOf, sliceStart, sliceSize}
+use Rattle.model.specs.Session.{Held, held, geometry, keyIn, keyOf, countOf, entry, entryOf, sliceOf, offsetOf, unmapped}
+use Rattle.model.specs.Conditions.{CountFits, Counted, TablesFit, Enough, AllHeld, FirstFree, Names, sliceAt}
 use Rattle.model.specs.Opening.{OpenOutcome, OpenTo, openModel, storedEntry}
 use Rattle.model.specs.Read.{ReadResult, Filled, readModel, findModel, deciphered}
 use Rattle.model.specs.Write.{WriteResult, writeModel}
@@ -76,8 +76,8 @@ pub record Point1 : Type 0 where
   pub writes : (device : ℕ) (h : Held) (i a : ℕ) (text perm tape : List ℕ)
       → WriteAnswered device h i a text perm tape (writeModel device h i a text perm tape .answer)
   pub closes : (device : ℕ) (h : Held) (tape : List ℕ) → CloseAnswered device h tape (closeModel device h tape .answer)
-  pub formats : (device : ℕ) (g : Geometry) (n : ℕ) (keys tape : List ℕ) (position : ℕ)
-      → FormatAnswered device g n keys tape position (formatModel device g n keys tape position)
+  pub formats : (device : ℕ) (g : Geometry) (n : ℕ) (keys counts tape : List ℕ) (position : ℕ)
+      → FormatAnswered device g n keys counts tape position (formatModel device g n keys counts tape position)
   -- What each request stores and leaves, in any session, also one that no opening gave. Refused, it changes nothing, with one exception:
   -- a 22 moves the session's start place to P (document 02, P2).
   pub follows : (st : State) (c : Call) → Follows (st .held) (outcome st c)
@@ -133,6 +133,8 @@ pub record Opens (x : Handed) (k : ℕ) (entries : ℕ → ℕ → ℕ) (h : Hel
   pub position : h .position ≡ x .position
   pub keys-long : length (h .session .keys) ≡ 480
   pub keys-above : (i : ℕ) → k < i → i < 15 → keyOf (h .session) i ≡ replicate 32 0
+  pub counts-long : length (h .session .counts) ≡ 15
+  pub counts-above : (i : ℕ) → k < i → i < 15 → countOf (h .session) i ≡ 0
   pub maps-long : length (h .maps) ≡ 15 * x .geometry .p
   pub owners-long : length (h .owners) ≡ x .geometry .p
   pub mapped : (i σ : ℕ) → i ≤ k → σ < x .geometry .p → entry (h .maps) (geometry h) i σ ≡ entries i σ
@@ -143,10 +145,11 @@ pub record Opens (x : Handed) (k : ℕ) (entries : ℕ → ℕ → ℕ) (h : Hel
 
 -- ---- point 2: one run
 
--- An opening to volume k that gives these arrays.
-pub record Reopens (device : List ℕ) (y : Handed) (l : Lent) (k : ℕ) (arrays : Arrays) : Type 0 where
+-- An opening to volume k that gives these counts and these arrays, of N × S blocks each.
+pub record Reopens (device : List ℕ) (y : Handed) (l : Lent) (k : ℕ) (counts : List ℕ) (arrays : Arrays) : Type 0 where
   pub served : opens device y l .answer ≡ OpenTo k
-  pub same : (i a : ℕ) → i ≤ k → a < blockCount (y .geometry) i → firstArrays device y l i a ≡ arrays i a
+  pub counted : opens device y l .session .counts ≡ counts
+  pub same : (i a : ℕ) → i ≤ k → a < countIn counts i * y .geometry .s → firstArrays device y l i a ≡ arrays i a
 
 pub record Run (s : List ℕ) (x : Handed) (l : Lent) (k : ℕ) (cs : List Call) : Type 0 where
   -- Every answer is the one that the arrays give, and what is held follows from the answers.
@@ -156,11 +159,12 @@ pub record Run (s : List ℕ) (x : Handed) (l : Lent) (k : ℕ) (cs : List Call)
   pub stored : final (begin s x l) cs .device ≡ patched (storedByAll (holds s x l) (events (begin s x l) cs)) s
   pub kept : (p : ℕ) → (Within p (writtenByAll (x .geometry) k (events (begin s x l) cs)) → ⊥)
       → getD (final (begin s x l) cs .device) p 0 ≡ getD s p 0
-  -- Closed and opened again with the same key, any permutation that names each slice and any tables: the same arrays.
+  -- Closed and opened again with the same key, any permutation that names each slice and any tables: the same counts and arrays.
   pub again : (tape : List ℕ) → outcome (final (begin s x l) cs) (Closing tape) .answer ≡ Closes tape CloseResult.Closed
       → (y : Handed) (l′ : Lent) → y .geometry ≡ x .geometry → y .key ≡ x .key
       → Names (y .geometry .p) (y .perm) → TablesFit (y .geometry) (length (l′ .maps)) (length (l′ .owners))
-      → Reopens (next (final (begin s x l) cs) (Closing tape) .device) y l′ k (arraysAfterAll (firstArrays s x l) (events (begin s x l) cs))
+      → Reopens (next (final (begin s x l) cs) (Closing tape) .device) y l′ k (holds s x l .session .counts)
+      (arraysAfterAll (firstArrays s x l) (events (begin s x l) cs))
 
 -- ---- point 3: two runs
 
@@ -187,10 +191,10 @@ pub record EqualRuns (k : ℕ) (st st′ : State) (cs : List Call) : Type 0 wher
 -- ---- points 2 and 3, of a served opening
 
 pub record Guarantee (s : List ℕ) (x : Handed) (l : Lent) (k : ℕ) : Type 0 where
-  -- Cell k is the lowest that opens, and the session's data keys are the VEKs of headers k down to 0.
+  -- Cell k is the lowest that opens, and the session's data keys and counts are the VEKs and the N of headers k down to 0.
   pub vmk : List ℕ
   pub lowest : Lowest s (x .key) k vmk
-  pub keys : (i : ℕ) → i ≤ k → Unlocked s (x .geometry) k vmk i (keyOf (opens s x l .session) i)
+  pub keys : (i : ℕ) → i ≤ k → Unlocked s (x .geometry) k vmk i (keyOf (opens s x l .session) i) (countOf (opens s x l .session) i)
   -- The opening leaves the tables of the maps on the device.
   pub leaves : Opens x k (mapEntry s x l) (holds s x l)
   -- Point 2.
@@ -204,62 +208,69 @@ Points23 = (s : List ℕ) (x : Handed) (l : Lent) (k : ℕ) → opens s x l .ans
 
 -- ---- formatting: points 2 and 3 for sessions opened afterwards
 
--- An opening to volume i finds nothing mapped and nothing owned, and every block of volumes 0 to i is zeros.
-pub record Blank (made : List ℕ) (x : Handed) (l : Lent) (i : ℕ) : Type 0 where
+-- An opening to volume i finds these counts, nothing mapped and nothing owned, and the N × S blocks of each volume 0 to i are zeros.
+pub record Blank (made : List ℕ) (x : Handed) (l : Lent) (i : ℕ) (counts : List ℕ) : Type 0 where
   pub served : opens made x l .answer ≡ OpenTo i
   pub maps : opens made x l .maps ≡ replicate (15 * x .geometry .p) unmapped
   pub owners : opens made x l .owners ≡ replicate (x .geometry .p) 0
-  pub zeros : (j a : ℕ) → j ≤ i → a < blockCount (x .geometry) j → firstArrays made x l j a ≡ replicate (x .geometry .b) 0
+  pub counted : (j : ℕ) → j ≤ i → countOf (opens made x l .session) j ≡ countIn counts j
+  pub zeros : (j a : ℕ) → j ≤ i → a < countIn counts j * x .geometry .s → firstArrays made x l j a ≡ replicate (x .geometry .b) 0
 
--- A device that was formatted with n keys, opened with key i below n, a permutation that names each slice and tables of the right
--- lengths.
+-- A device that was formatted with n keys and a count for each, opened with key i below n, a permutation that names each slice and tables
+-- of the right lengths.
 pub record FormattedFor (made : List ℕ) (x : Handed) (l : Lent) (i : ℕ) : Type 0 where
   pub device : ℕ
   pub n : ℕ
   pub keys : List ℕ
+  pub counts : List ℕ
   pub tape : List ℕ
   pub position : ℕ
   pub after : ℕ
-  pub formatted : formatModel device (x .geometry) n keys tape position ≡ Formatted made after
+  pub formatted : formatModel device (x .geometry) n keys counts tape position ≡ Formatted made after
   pub below : i < n
   pub key : x .key ≡ keyIn keys i
   pub names : Names (x .geometry .p) (x .perm)
   pub tables : TablesFit (x .geometry) (length (l .maps)) (length (l .owners))
 
--- The device opens with key i to volumes 0 to i, all zero.
+-- The device opens with key i to volumes 0 to i, each of its own N × S blocks, all zero (document 02, P4).
 abbrev pub FormattedOpens : Type 0
-FormattedOpens = (made : List ℕ) (x : Handed) (l : Lent) (i : ℕ) → FormattedFor made x l i → Blank made x l i
+FormattedOpens = (made : List ℕ) (x : Handed) (l : Lent) (i : ℕ) (f : FormattedFor made x l i) → Blank made x l i (f .counts)
 
 -- From making to reading: over every list of calls each volume is an array that begins with zeros, and points 2 and 3 hold.
 pub record FromMaking (made : List ℕ) (x : Handed) (l : Lent) (i : ℕ) : Type 0 where
   pub due : (cs : List Call) → AllDue (λ j a. replicate (x .geometry .b) 0) (begin made x l) cs
   pub guarantee : Guarantee made x l i
 
--- What is handed to a formatting is right: the geometry, 1 to 15 keys of 32 bytes, and a tape that is long enough.
-pub record Right (g : Geometry) (n : ℕ) (keys tape : List ℕ) (position : ℕ) : Type 0 where
+-- What is handed to a formatting is right: the geometry, 1 to 15 keys of 32 bytes, a count of 1 to P for each, and a tape that is long
+-- enough.
+pub record Right (g : Geometry) (n : ℕ) (keys counts tape : List ℕ) (position : ℕ) : Type 0 where
   pub allowed : Allowed g
   pub least : 1 ≤ n
   pub most : n ≤ 15
   pub keyed : length keys ≡ 32 * n
+  pub counted : Counted (g .p) n counts
   pub enough : Enough (length tape) position (formatTape g n)
 
 -- A device of the right length is made, and the position is past the bytes drawn.
-abbrev pub MadeWith : Geometry → (n : ℕ) → (keys tape : List ℕ) → (position : ℕ) → Type 0
-MadeWith g n keys tape position =
-    (made : List ℕ) × (formatModel (deviceLength g) g n keys tape position ≡ Formatted made (position + formatTape g n))
+abbrev pub MadeWith : Geometry → (n : ℕ) → (keys counts tape : List ℕ) → (position : ℕ) → Type 0
+MadeWith g n keys counts tape position =
+    (made : List ℕ) × (formatModel (deviceLength g) g n keys counts tape position ≡ Formatted made (position + formatTape g n))
 
 pub record FormatPoints : Type 0 where
   pub blank : FormattedOpens
   pub runs : (made : List ℕ) (x : Handed) (l : Lent) (i : ℕ) → FormattedFor made x l i → FromMaking made x l i
   -- With what is handed in right, nothing but 24 can refuse; with one key there is no lower cell, and with two equal keys one opens.
-  pub right : (g : Geometry) (n : ℕ) (keys tape : List ℕ) (position : ℕ) → Right g n keys tape position
-      → MadeWith g n keys tape position ⊎ (formatModel (deviceLength g) g n keys tape position ≡ FormatResult.Refused 24)
-  pub one-key : (g : Geometry) (key tape : List ℕ) (position : ℕ) → Right g 1 key tape position → MadeWith g 1 key tape position
-  pub equal-keys : (g : Geometry) (n : ℕ) (keys tape : List ℕ) (position : ℕ) → Right g n keys tape position
-      → (i j : ℕ) → j < i → i < n → keyIn keys i ≡ keyIn keys j → formatModel (deviceLength g) g n keys tape position ≡ FormatResult.Refused 24
-  -- So a device that opens exists, of every geometry and for every key.
-  pub some-opens : (x : Handed) (l : Lent) → Allowed (x .geometry) → length (x .key) ≡ 32 → Names (x .geometry .p) (x .perm)
-      → TablesFit (x .geometry) (length (l .maps)) (length (l .owners)) → (device : List ℕ) × (opens device x l .answer ≡ OpenTo 0)
+  pub right : (g : Geometry) (n : ℕ) (keys counts tape : List ℕ) (position : ℕ) → Right g n keys counts tape position
+      → MadeWith g n keys counts tape position ⊎ (formatModel (deviceLength g) g n keys counts tape position ≡ FormatResult.Refused 24)
+  pub one-key : (g : Geometry) (key counts tape : List ℕ) (position : ℕ) → Right g 1 key counts tape position
+      → MadeWith g 1 key counts tape position
+  pub equal-keys : (g : Geometry) (n : ℕ) (keys counts tape : List ℕ) (position : ℕ) → Right g n keys counts tape position
+      → (i j : ℕ) → j < i → i < n → keyIn keys i ≡ keyIn keys j
+      → formatModel (deviceLength g) g n keys counts tape position ≡ FormatResult.Refused 24
+  -- So a device that opens exists, of every geometry, for every key and every N that is allowed.
+  pub some-opens : (x : Handed) (l : Lent) (count : ℕ) → Allowed (x .geometry) → length (x .key) ≡ 32 → CountFits (x .geometry .p) count
+      → Names (x .geometry .p) (x .perm) → TablesFit (x .geometry) (length (l .maps)) (length (l .owners))
+      → (device : List ℕ) × (opens device x l .answer ≡ OpenTo 0) × (countOf (opens device x l .session) 0 ≡ count)
 
 -- ---- the accident of the case: a slice that two volumes hold
 

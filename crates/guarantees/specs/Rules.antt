@@ -1,6 +1,6 @@
--- Point 1 (README.md, "What is proved"): the listed refusals of each call in their listed order, each with its condition
--- (document 01, "Refused for ..", and the orders of the calls; document 02, P1 and P2). The conditions are the documents', in their own words
--- and not the model's. Assumes nothing.
+-- Point 1 (README.md, "What is proved"): the listed refusals of each call in their listed order, each with its condition (document 01,
+-- "Refused for ..", and the orders of the calls; document 02, P1, P2 and P4). The conditions are the documents', in their own words and
+-- not the model's. Assumes nothing.
 use Prim.Native.Nat.{ℕ, _+_, _-_, _*_, _≤_, _<_}
 use mathlib.Core.Path.{_≡_}
 use mathlib.Core.Logic.{_⊎_}
@@ -8,10 +8,10 @@ use mathlib.Core.List.{List, [], _∷_, _++_}
 use lib.ListN.{length, getD}
 use Rattle.model.specs.declared.Geometry.{Geometry}
 use Rattle.model.specs.declared.Session.{Session}
-use Rattle.model.specs.Conditions.{Usable, TablesFit, EntryFits, Enough, AllHeld, FirstFree, FirstBad, Names}
+use Rattle.model.specs.Conditions.{Counted, Usable, TablesFit, EntryFits, EntryFitsAt, Enough, AllHeld, FirstFree, FirstBad, Names}
 use Rattle.model.specs.Parts.{part}
 use Rattle.model.specs.Geometry.{Allowed, deviceLength, mapBlocks, ivStart, blockStart}
-use Rattle.model.specs.Session.{Held, geometry, unmapped, entryOf, offsetOf}
+use Rattle.model.specs.Session.{Held, geometry, countOf, unmapped, entryOf, offsetOf}
 
 -- A refusal with the places looked at that it carries, and its condition.
 pub record Rule : Type 1 where
@@ -72,11 +72,11 @@ standingRules device maps owners s =
     ∷ rule 4 (TablesFit (s .geometry) maps owners → ⊥)
     ∷ []
 
--- 11, 12, 13, 9.
+-- 11, 12 (at or above N × S: document 02, P4), 13, 9.
 abbrev pub askedRules : (maps : List ℕ) → Session → (i a len : ℕ) → List Rule
 askedRules maps s i a len =
     rule 11 (s .k < i)
-    ∷ rule 12 (s .geometry .p * s .geometry .s ≤ a)
+    ∷ rule 12 (countOf s i * s .geometry .s ≤ a)
     ∷ rule 13 (len ≡ s .geometry .b → ⊥)
     ∷ rule 9 (EntryFits (s .geometry) (entryOf maps (s .geometry) i a) → ⊥)
     ∷ []
@@ -96,10 +96,11 @@ openRules g device key maps owners perm =
 abbrev pub formatTape : Geometry → (n : ℕ) → ℕ
 formatTape g n = deviceLength g + n * (88 + 16 * mapBlocks g)
 
--- Formatting: 1, 2, 23, 3, 21; what follows them, 24, is said by the cells.
-abbrev pub formatRules : (device : ℕ) → Geometry → (n keys tape position : ℕ) → List Rule
-formatRules device g n keys tape position =
-    rule 1 (Allowed g → ⊥)
+-- Formatting: 1 (the geometry, or other than one count for each key, or one that is not 1 to P: document 02, P4), 2, 23, 3, 21; what
+-- follows them, 24, is said by the cells.
+abbrev pub formatRules : (device : ℕ) → Geometry → (n keys : ℕ) → (counts : List ℕ) → (tape position : ℕ) → List Rule
+formatRules device g n keys counts tape position =
+    rule 1 (Allowed g × Counted (g .p) n counts → ⊥)
     ∷ rule 2 (device ≡ deviceLength g → ⊥)
     ∷ rule 23 ((n ≡ 0) ⊎ (15 < n))
     ∷ rule 3 (keys ≡ 32 * n → ⊥)
@@ -123,10 +124,11 @@ writeRules device h i a text perm tape n =
     ∷ record { number = 21; probes = probesAt h n; holds = (heldEntry h i a ≡ unmapped) × (Enough (length tape) (h .position) (geometry h .b) → ⊥) }
     ∷ [])))
 
--- Close: 20, 2, 4, then 9 for a bad entry in rows 0 to k, then 21.
+-- Close: 20, 2, 4, then 9 for a bad entry in rows 0 to k, one at or past its volume's N too (document 02, P4), then 21.
 abbrev pub closeRules : (device : ℕ) → Held → (tape : ℕ) → List Rule
 closeRules device h tape =
     standingRules device (length (h .maps)) (length (h .owners)) (h .session)
-    ++ (rule 9 (((n : ℕ) → n < (h .session .k + 1) * geometry h .p → EntryFits (geometry h) (getD (h .maps) n 0)) → ⊥)
+    ++ (rule 9
+    (((n : ℕ) → n < (h .session .k + 1) * geometry h .p → EntryFitsAt (geometry h .p) (h .session .counts) n (getD (h .maps) n 0)) → ⊥)
     ∷ rule 21 (Enough tape (h .position) (16 * mapBlocks (geometry h) * (h .session .k + 1)) → ⊥)
     ∷ [])
