@@ -13,8 +13,8 @@ use Rattle.gcm.specs.Call.{openedOver}
 use Rattle.gcm.proofs.Same.{open-test}
 use Rattle.model.specs.declared.Geometry.{Geometry}
 use Rattle.model.specs.Parts.{choose, part}
-use Rattle.model.specs.Geometry.{Allowed, mapBlocks, deviceLength, numberAt, headerStart, headerOf}
-use Rattle.model.specs.Opening.{openHeader, Chain, Broken, link}
+use Rattle.model.specs.Geometry.{Allowed, mapBlocks, deviceLength, headerStart, headerOf}
+use Rattle.model.specs.Opening.{openHeader, badHeader, Chain, Broken, link}
 use Rattle.model.proofs.Parts.{part-part}
 use Rattle.model.proofs.Bounds.{b-bounds, header-fits}
 use Rattle.chaining.specs.Steps.{HeaderOpened}
@@ -44,38 +44,34 @@ openHeader-longer g ok device vmk i l e q =
     let same-part = part-header g ok device i l e q in
     cc (same-part 0 12 (omega arith), same-part 12 72 (omega arith), same-part 84 16 (omega arith))
 
--- The answer to a header's text with the numbers x and y, where they ought to be p and s.
-module _ (x p y s : ℕ) where
+-- The answer to a header's text, by the test of its N, and its S y, which ought to be s.
+module _ (bad : Bool) (y s : ℕ) where
   abbrev headerNumber : ℕ
-  headerNumber = choose (not (eqb x p) || not (eqb y s)) 8 0
+  headerNumber = choose (bad || not (eqb y s)) 8 0
 
-  pub slices-differ : (x ≡ p → ⊥) → 8 ≡ headerNumber
-  slices-differ h = sym (rw (ne-eqb x p h))
+  pub count-bad : bad ≡ true → 8 ≡ headerNumber
+  count-bad e = sym (rw e)
 
-  pub blocks-differ : x ≡ p → (y ≡ s → ⊥) → 8 ≡ headerNumber
-  blocks-differ e h = sym (rw (eq-eqb x p e, ne-eqb y s h))
+  pub blocks-differ : bad ≡ false → (y ≡ s → ⊥) → 8 ≡ headerNumber
+  blocks-differ e h = sym (rw (e, ne-eqb y s h))
 
-  pub none-differs : x ≡ p → y ≡ s → 0 ≡ headerNumber
-  none-differs e q = sym (rw (eq-eqb x p e, eq-eqb y s q))
+  pub none-bad : bad ≡ false → y ≡ s → 0 ≡ headerNumber
+  none-bad e q = sym (rw (e, eq-eqb y s q))
 
 module _ (g : Geometry) where
-  -- P or S of a header's text is not the geometry's.
-  abbrev pub differs : List ℕ → Bool
-  differs text = not (eqb (numberAt 64 text) (g .p)) || not (eqb (numberAt 68 text) (g .s))
-
-  -- A header that opened, by its P and S.
+  -- A header that opened, by its N and S.
   pub header-text : {o : Opened} {t text : List ℕ} (old : List ℕ) (n : ℕ) → o ≡ Text t → text ≡ openedOver o old
-      → n ≡ choose (differs text) 8 0 → HeaderOpened g o n text
+      → n ≡ choose (badHeader g text) 8 0 → HeaderOpened g o n text
   header-text {o} {t} {text} old n e q h =
       let same-text : text ≡ t = q ∙ ap (λ (x : Opened). openedOver x old) e in
-      rw e (same-text, h ∙ ap (λ (x : List ℕ). choose (differs x) 8 0) same-text)
+      rw e (same-text, h ∙ ap (λ (x : List ℕ). choose (badHeader g x) 8 0) same-text)
 
   pub header-wrong : {o : Opened} (text : List ℕ) → o ≡ WrongTag → HeaderOpened g o 7 text
   header-wrong text e = rw e refl
 
   pub link-broken : (o : Opened) (n : ℕ) (text : List ℕ) (next : List ℕ → Chain) → HeaderOpened g o n text → (n ≡ 0 → ⊥) → link g o next ≡ Broken n
   link-broken WrongTag n text next e h = ap Broken (sym e)
-  link-broken (Text t) n text next (q, e) h = by-test (differs t) e
+  link-broken (Text t) n text next (q, e) h = by-test (badHeader g t) e
     where
       by-test : (b : Bool) → n ≡ choose b 8 0 → choose b (Broken 8) (next t) ≡ Broken n
       by-test true x = ap Broken (sym x)
@@ -83,7 +79,7 @@ module _ (g : Geometry) where
 
   pub link-goes-on : (o : Opened) (n : ℕ) (text : List ℕ) (next : List ℕ → Chain) → HeaderOpened g o n text → n ≡ 0 → link g o next ≡ next text
   link-goes-on WrongTag n text next e h = absurd (omega arith)
-  link-goes-on (Text t) n text next (q, e) h = by-test (differs t) e
+  link-goes-on (Text t) n text next (q, e) h = by-test (badHeader g t) e
     where
       by-test : (b : Bool) → n ≡ choose b 8 0 → choose b (Broken 8) (next t) ≡ next text
       by-test true x = absurd (omega arith)

@@ -1,11 +1,11 @@
-// The chain of headers from volume k down to 0. The VMK of a key cell opens the first; each holds its volume's data key and the VMK that
-// opens the next. The rest of a header's first block is never read.
+// The chain of headers from volume k down to 0. The VMK of a key cell opens the first; each holds its volume's data key, the VMK that
+// opens the next, and the volume's count of logical slices (document 02, P4). The rest of a header's first block is never read.
 ghost use mathlib.Core.Path.{_≡_};
 ghost use Prim.Native.Nat.{_≤_, _<_};
 ghost use lib.ListN.{length};
 ghost use Rattle.refusals.specs.Numbers.{answerNumber};
 ghost use Rattle.model.specs.Geometry.{Allowed, deviceLength, headerOf};
-ghost use Rattle.model.specs.Session.{noKeys};
+ghost use Rattle.model.specs.Session.{noKeys, noCounts};
 ghost use Rattle.model.specs.Opening.{openHeader, chain};
 ghost use Rattle.chaining.specs.Steps.{HeaderOpened, ChainOpened};
 ghost use mathlib.Core.List.{[]};
@@ -27,7 +27,7 @@ fn open_header(header: &[u8], g: Geometry, i: usize, vmk: &[u8], text: &mut [u8]
         &header[84..100],
         text,
     ) {
-        if places::number_at(text, 64) != g.p {
+        if places::is_bad_count(g.p, places::number_at(text, 64)) {
             return Answer::Refused(Refusal::HeaderGeometry);
         }
         if places::number_at(text, 68) != g.s {
@@ -38,10 +38,19 @@ fn open_header(header: &[u8], g: Geometry, i: usize, vmk: &[u8], text: &mut [u8]
     Answer::Refused(Refusal::HeaderTag)
 }
 
-// The headers k down to 0: the data keys into keys, or 7 or 8. vmk holds the VMK of volume k at first.
-pub fn open_chain(device: &[u8], g: Geometry, k: usize, vmk: &mut [u8], keys: &mut [u8]) -> Answer
-    requires { ⌜ Allowed g × (length (now device) ≡ deviceLength g) × (k ≤ 14) × (length (now vmk) ≡ 32) × (now keys ≡ noKeys) ⌝ }
-    ensures { λ r. ⌜ ChainOpened (chain g (headerOf g (now (device .entry))) k (now (vmk .entry)) []) k (answerNumber r) (now (keys .exit)) ⌝ }
+// The headers k down to 0: the data keys into keys and the counts into counts, or 7 or 8. vmk holds the VMK of volume k at first.
+pub fn open_chain(
+    device: &[u8],
+    g: Geometry,
+    k: usize,
+    vmk: &mut [u8],
+    keys: &mut [u8],
+    counts: &mut [usize],
+) -> Answer
+    requires { ⌜ Allowed g × (length (now device) ≡ deviceLength g) × (k ≤ 14) × (length (now vmk) ≡ 32) × (now keys ≡ noKeys)
+        × (now counts ≡ noCounts) ⌝ }
+    ensures { λ r. ⌜ ChainOpened (chain g (headerOf g (now (device .entry))) k (now (vmk .entry)) [] []) k (answerNumber r) (now (keys .exit))
+        (now (counts .exit)) ⌝ }
 {
     let mut text = [0u8; 72];
     let mut n = k + 1;
@@ -53,6 +62,7 @@ pub fn open_chain(device: &[u8], g: Geometry, k: usize, vmk: &mut [u8], keys: &m
             return bad;
         }
         places::store(keys, 32 * i, &text[0..32]);
+        counts[i] = places::number_at(&text, 64);
         block::copy(vmk, &text[32..64]);
         n = i;
     }

@@ -5,7 +5,7 @@ use mathlib.Core.Bool.{true}
 use mathlib.Core.List.{List}
 use native.Mathlib.Nat.{add-zero}
 use native.Mathlib.Omega.{arith}
-use lib.ListN.{length, set, take, length-take, length-replicate}
+use lib.ListN.{length, set, take, getD-replicate, length-take, length-replicate}
 use lib.Seq.{take-set-lt}
 use borrow.Author.Tests.{eq-eqb, ne-eqb, lt-ltb, le-ltb}
 use Rattle.refusals.specs.Numbers.{refusalNumber, refuse}
@@ -15,8 +15,10 @@ use Rattle.refusals.proofs.Positive.{refusal-positive}
 use Rattle.model.specs.declared.Geometry.{Geometry}
 use Rattle.model.specs.Geometry.{Allowed, badGeometry, deviceLength}
 use Rattle.model.specs.Session.{Held, held, standing, idle, slot, sliceOf, offsetOf}
+use Rattle.model.specs.Conditions.{CountsFit}
 use Rattle.model.specs.Write.{Refused, rewritten, claimed, full, writeRefusal, writeModel}
 use Rattle.model.proofs.Tests.{badGeometry-allowed}
+use Rattle.model.proofs.Requests.{anyBadCount-fits}
 use Rattle.model.proofs.Order.{badGeometry-first}
 use Rattle.deciding.proofs.Outcomes.{refused-first}
 use Rattle.lines.specs.declared.WalkAnswer.{WalkAnswer}
@@ -31,6 +33,12 @@ use Rattle.claims.specs.Answers.{stateOf, Answers, moved, Serves}
 pub zeros-length : (n : ℕ) → length (zeros n) ≡ n
 unfolding zeros
 zeros-length n = length-replicate n 0
+
+-- Each volume of a walk has N = P, which is allowed (document 02, P4).
+pub allOpen-counted : (g : Geometry) (start : ℕ) → Allowed g → CountsFit (g .p) (allOpen g start .counts) 15
+allOpen-counted g start ok i l =
+    let e = getD-replicate 15 i (g .p) 0 l in
+    (omega (arith, e, ok .slices-least), omega (arith, e))
 
 -- A line that is refused leaves the walk as it was, and answers the refusal's number.
 pub refused-answers : {s : Stepped} (w : Walk) (maps owners perm : List ℕ) (r : Refusal)
@@ -119,5 +127,6 @@ module _ (w : Walk) (maps owners perm : List ℕ) (i a : ℕ) (shuffled : w .shu
   length-answers ok inside long past =
       let short : length (take (15 * g .p) maps) ≡ 15 * g .p → ⊥ = λ e. omega (arith, e, simp length-take at e) in
       let device = eq-eqb (deviceLength g) _ refl in
+      let counted = anyBadCount-fits (g .p) (allOpen g (w .start) .counts) 15 (allOpen-counted g (w .start) ok) in
       first-answers TableLength
-      (sym (badGeometry-allowed 20 g _ ok ∙ rw (le-ltb (g .p) (w .start) inside, device, ne-eqb _ _ short) refl))
+      (sym (badGeometry-allowed 20 g _ ok ∙ rw (le-ltb (g .p) (w .start) inside, counted, device, ne-eqb _ _ short) refl))

@@ -19,9 +19,10 @@ pub record State : Type 0 where
   pub perm : List ℕ
   pub held : Held
 
--- A session with all 15 volumes open, and its start place; no cipher runs, so that its data keys do not matter.
+-- A session with all 15 volumes open, each with N = P (document 02, P4), and its start place; no cipher runs, so that its data keys do
+-- not matter.
 abbrev pub allOpen : Geometry → (start : ℕ) → Session
-allOpen g start = record { geometry = g; k = 14; keys = noKeys; opened = true; start = start }
+allOpen g start = record { geometry = g; k = 14; keys = noKeys; opened = true; start = start; counts = replicate 15 (g .p) }
 
 -- Empty maps, no owners, the tape and the permutation at their start.
 abbrev pub empty : Geometry → Held

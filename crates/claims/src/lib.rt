@@ -57,7 +57,7 @@ pub fn refuse(walk: Walk, refusal: Refusal) -> Answered
 
 // ---- the engine's write
 
-// A session with all 15 volumes open, without data keys.
+// A session with all 15 volumes open, without data keys, each with N = P (document 02, P4).
 fn all_open(g: Geometry, start: usize) -> Session
     ensures { λ r. ⌜ r ≡ allOpen g start ⌝ }
 {
@@ -67,6 +67,7 @@ fn all_open(g: Geometry, start: usize) -> Session
         keys: [0u8; 480],
         opened: true,
         start: start,
+        counts: [g.p; 15],
     }
 }
 

@@ -35,7 +35,7 @@ module _ (device : ℕ) (h : Held) (tape : ℕ) where
   closeRefusal-first l = sym (standing-first device (length (h .maps)) (length (h .owners)) (h .session) l _)
 
   abbrev Bad : Bool
-  Bad = anyBad (geometry h .p) (h .maps) ((h .session .k + 1) * geometry h .p)
+  Bad = anyBad (geometry h .p) (h .session .counts) (h .maps) ((h .session .k + 1) * geometry h .p)
 
   abbrev Short : Bool
   Short = short tape (h .position) (closeNeed (h .session))

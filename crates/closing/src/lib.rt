@@ -67,7 +67,8 @@ fn close_refusal(
     }
     let g = session.geometry;
     let k = session.k;
-    if tables::any_bad(maps, g.p, (k + 1) * g.p) {
+    let counts = session.counts;
+    if tables::any_bad(maps, &counts, g.p, (k + 1) * g.p) {
         return Answer::Refused(Refusal::BadEntry);
     }
     if tape::is_short(tape, position, maps_need(session)) {
@@ -76,18 +77,20 @@ fn close_refusal(
     Answer::Served
 }
 
-// The session after a close: closed, its keys 0, geometry, k and start place as they were.
+// The session after a close: closed, its keys 0, geometry, k, start place and counts as they were.
 fn closed_session(session: Session) -> Session
     ensures { λ r. ⌜ r ≡ closedSession session ⌝ }
 {
     let g = session.geometry;
     let none = [0u8; 480];
+    let kept = session.counts;
     Session {
         geometry: g,
         k: session.k,
         keys: none,
         opened: false,
         start: session.start,
+        counts: kept,
     }
 }
 

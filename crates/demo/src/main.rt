@@ -19,13 +19,27 @@ fn say_number(n: usize) {
     io::print_decimal(STDOUT_FILENO, n as u64);
 }
 
-fn say_open(answer: OpenAnswer, start: usize) {
+// The logical slices of each open volume: above the opened one the count is 0.
+fn say_slices(counts: [usize; 15]) {
+    say(b", slices of its volumes");
+    let mut v = 0;
+    while v < 15 {
+        if counts[v] != 0 {
+            say(b" ");
+            say_number(counts[v]);
+        }
+        v += 1;
+    }
+}
+
+fn say_open(answer: OpenAnswer, start: usize, counts: [usize; 15]) {
     match answer {
         OpenAnswer::Opened(k) => {
             say(b"opened to volume ");
             say_number(k);
             say(b", start place ");
             say_number(start);
+            say_slices(counts);
         }
         OpenAnswer::Refused(r) => {
             say(b"refused, ");
@@ -110,7 +124,8 @@ fn fill(bytes: &mut [u8]) {
 
 fn show_format(words: &[u8], device: &mut [u8], keys: &[u8], tape: &[u8], at: &mut usize) {
     say(words);
-    let answer = lending::format_at(device, geometry(), 2, keys, tape, at);
+    let counts = [4usize, 2];
+    let answer = lending::format_at(device, geometry(), 2, keys, &counts, tape, at);
     say_answer(answer);
     say(b", tape position ");
     let position = *at;
@@ -118,7 +133,8 @@ fn show_format(words: &[u8], device: &mut [u8], keys: &[u8], tape: &[u8], at: &m
     say(b"\n");
 }
 
-// The device is made: not with one key for both volumes, since it would open the lower one alone.
+// The device is made, with 4 logical slices for volume 0 and 2 for volume 1: not with one key for both volumes, since it would open
+// the lower one alone.
 fn show_making(device: &mut [u8], tape: &[u8], at: &mut usize) {
     let twice = [1u8; 64];
     show_format(b"format with one key twice: ", device, &twice, tape, at);
@@ -140,7 +156,8 @@ fn show_open(
     let o = opening::open(device, geometry(), &caller_key(key), maps, owners, perm);
     let answer = o.answer;
     let session = o.session;
-    say_open(answer, session.start);
+    let counts = session.counts;
+    say_open(answer, session.start, counts);
     session
 }
 
@@ -157,12 +174,21 @@ fn show_bytes(buf: &[u8]) {
     }
 }
 
-fn show_read(device: &[u8], maps: &[u32], owners: &[u8], session: Session, volume: usize) {
-    say(b"read block 5 of volume ");
+fn show_read(
+    device: &[u8],
+    maps: &[u32],
+    owners: &[u8],
+    session: Session,
+    volume: usize,
+    address: usize,
+) {
+    say(b"read block ");
+    say_number(address);
+    say(b" of volume ");
     say_number(volume);
     say(b": ");
     let mut buf = [255u8; 1024];
-    let r = reading::read(device, maps, owners, session, volume, 5, &mut buf);
+    let r = reading::read(device, maps, owners, session, volume, address, &mut buf);
     let answer = r.answer;
     say_answer(answer);
     match answer {
@@ -291,10 +317,10 @@ fn show_work(
 ) {
     let left = show_requests(device, maps, owners, perm, tape, at, session, text);
     let closed = show_close(device, maps, owners, tape, at, left);
-    show_read(device, maps, owners, closed, 1);
+    show_read(device, maps, owners, closed, 1, 5);
 }
 
-// One session with key 1.
+// One session with key 1. Volume 1 has 8 blocks, so that block 8 is past its end.
 fn show_session(
     device: &mut [u8],
     maps: &mut [u32],
@@ -305,21 +331,22 @@ fn show_session(
     text: &[u8],
 ) {
     let session = show_open(b"open with key ", device, 1, maps, owners, perm);
-    show_read(device, maps, owners, session, 1);
+    show_read(device, maps, owners, session, 1, 5);
+    show_read(device, maps, owners, session, 1, 8);
     show_work(device, maps, owners, perm, tape, at, session, text);
 }
 
 // The device opened again with key 1: what was written is there.
 fn show_upper(device: &[u8], maps: &mut [u32], owners: &mut [u8], perm: &[u32]) {
     let session = show_open(b"open again with key ", device, 1, maps, owners, perm);
-    show_read(device, maps, owners, session, 1);
+    show_read(device, maps, owners, session, 1, 5);
 }
 
 // With key 0: volume 0 as before, and no volume 1.
 fn show_lower(device: &[u8], maps: &mut [u32], owners: &mut [u8], perm: &[u32]) {
     let session = show_open(b"open again with key ", device, 0, maps, owners, perm);
-    show_read(device, maps, owners, session, 0);
-    show_read(device, maps, owners, session, 1);
+    show_read(device, maps, owners, session, 0, 5);
+    show_read(device, maps, owners, session, 1, 5);
 }
 
 // With each key, and with one that opens nothing.

@@ -15,6 +15,7 @@ use Rattle.refusals.proofs.Refuse.{unlessRefused-refused}
 use Rattle.model.specs.declared.Geometry.{Geometry}
 use Rattle.model.specs.Parts.{part}
 use Rattle.model.specs.Geometry.{Allowed, deviceLength}
+use Rattle.model.specs.Conditions.{Counted}
 use Rattle.model.specs.Format.{formatNeed, formatRefusal, lowerRefusal, formatted, formatModel}
 use Rattle.model.specs.Answers.{FormatLeaves}
 use Rattle.model.proofs.Requests.{Formattable, formatRefusal-none}
@@ -24,13 +25,13 @@ use Rattle.tape.proofs.Draws.{drawn-enough, drawn-length, past-enough, past-non
 use Rattle.making.specs.Drawn.{Makes}
 use Rattle.formatting.specs.Needed.{needed}
 
-module _ (device : List ℕ) (g : Geometry) (n : ℕ) (keys tape : List ℕ) (at : ℕ) where
+module _ (device : List ℕ) (g : Geometry) (n : ℕ) (keys counts tape : List ℕ) (at : ℕ) where
   -- The refusal of the call, and what holds where there is none.
   abbrev refusal : ℕ
-  refusal = formatRefusal (length device) g n (length keys) (length tape) at (lowerRefusal g n keys (part at (formatNeed g n) tape))
+  refusal = formatRefusal (length device) g n (length keys) counts (length tape) at (lowerRefusal g n keys (part at (formatNeed g n) tape))
 
-  ready : refusal ≡ 0 → Formattable (length device) g n (length keys) (length tape) at
-  ready e = formatRefusal-none (length device) g n (length keys) (length tape) at _ e
+  ready : refusal ≡ 0 → Formattable (length device) g n (length keys) counts (length tape) at
+  ready e = formatRefusal-none (length device) g n (length keys) counts (length tape) at _ e
 
   module _ (a : Answer) (refusals : answerNumber a ≡ refusal) where
     pub format-need-asks : answerNumber a ≡ 0 → Allowed g × (n ≤ 15)
@@ -41,7 +42,8 @@ module _ (device : List ℕ) (g : Geometry) (n : ℕ) (keys tape : List ℕ) (at
       bytes-are : bytes ≡ drawn tape at (needed a g n)
       bytes-are = draw .0 ∙ ap (drawn tape at) needs
 
-      pub carry-out-asks : answerNumber a ≡ 0 → Makes g n (length keys) (length bytes) × (length device ≡ deviceLength g)
+      pub carry-out-asks : answerNumber a ≡ 0
+          → Makes g n (length keys) (length bytes) × Counted (g .p) n counts × (length device ≡ deviceLength g)
       carry-out-asks z =
           let q = ready (sym refusals ∙ z) in (
             record {
@@ -50,6 +52,7 @@ module _ (device : List ℕ) (g : Geometry) (n : ℕ) (keys tape : List ℕ) (at
               keyed = q .keyed;
               long = ap length bytes-are ∙ long a z (q .enough);
             },
+            q .counted,
             q .long,
           )
         where
@@ -58,22 +61,22 @@ module _ (device : List ℕ) (g : Geometry) (n : ℕ) (keys tape : List ℕ) (at
           long (Refused r) z h = absurd (omega (arith, refusal-positive r, z))
 
       pub format-ensures : (r : Answer) (device′ : List ℕ)
-          → (r ≡ a) × (device′ ≡ unlessRefused (answerNumber a) (formatted g n keys bytes) device)
-          → FormatLeaves (formatModel (length device) g n keys tape at) device at (answerNumber r) device′ at′
+          → (r ≡ a) × (device′ ≡ unlessRefused (answerNumber a) (formatted g n keys counts bytes) device)
+          → FormatLeaves (formatModel (length device) g n keys counts tape at) device at (answerNumber r) device′ at′
       unfolding formatModel unlessRefused
       format-ensures r device′ l =
           rw (draw .1 ∙ ap (past tape at) needs, l .0)
-          (leaves a refusals (l .1 ∙ ap (λ (b : List ℕ). unlessRefused (answerNumber a) (formatted g n keys b) device) bytes-are))
+          (leaves a refusals (l .1 ∙ ap (λ (b : List ℕ). unlessRefused (answerNumber a) (formatted g n keys counts b) device) bytes-are))
         where
           leaves : (a : Answer) → answerNumber a ≡ refusal
-              → device′ ≡ unlessRefused (answerNumber a) (formatted g n keys (drawn tape at (needed a g n))) device
-              → FormatLeaves (formatModel (length device) g n keys tape at) device at (answerNumber a) device′ (past tape at (needed a g n))
+              → device′ ≡ unlessRefused (answerNumber a) (formatted g n keys counts (drawn tape at (needed a g n))) device
+              → FormatLeaves (formatModel (length device) g n keys counts tape at) device at (answerNumber a) device′ (past tape at (needed a g n))
           leaves Served e s =
               let h = ready (sym e) .enough in
               rw (← e)
               (record {
                 answered = refl;
-                stored = s ∙ ap (formatted g n keys) (drawn-enough tape at (formatNeed g n) h);
+                stored = s ∙ ap (formatted g n keys counts) (drawn-enough tape at (formatNeed g n) h);
                 moved = past-enough tape at (formatNeed g n) h;
               })
           leaves (Refused r) e s =

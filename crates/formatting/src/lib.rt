@@ -57,20 +57,27 @@ fn lower_opens(g: Geometry, n: usize, keys: &[u8], drawn: &[u8]) -> bool
     any_lower(&cells, keys, n)
 }
 
-// 1, 2, 23, 3 and 21, from the lengths of device, keys and tape.
+// 1, 2, 23, 3 and 21, from the counts and the lengths of device, keys and tape.
 fn lengths_refusal(
     device: usize,
     g: Geometry,
     n: usize,
     keys: usize,
+    counts: &[usize],
     tape: usize,
     position: usize,
 ) -> Answer
-    ensures { λ r. ⌜ answerNumber r ≡ formatRefusal device g n keys tape position 0 ⌝ }
+    ensures { λ r. ⌜ answerNumber r ≡ formatRefusal device g n keys (now (counts .entry)) tape position 0 ⌝ }
 {
     let bad = places::check_geometry(Refusal::BadGeometry, g);
     if let Answer::Refused(_) = bad {
         return bad;
+    }
+    if counts.len() != n {
+        return Answer::Refused(Refusal::BadGeometry);
+    }
+    if places::any_bad_count(counts, g.p, n) {
+        return Answer::Refused(Refusal::BadGeometry);
     }
     if device != places::device_length(g) {
         return Answer::Refused(Refusal::DeviceLength);
@@ -96,13 +103,14 @@ fn format_refusal(
     g: Geometry,
     n: usize,
     keys: &[u8],
+    counts: &[usize],
     tape: &[u8],
     position: usize,
 ) -> Answer
-    ensures { λ r. ⌜ answerNumber r ≡ formatRefusal device g n (length (now (keys .entry))) (length (now (tape .entry))) position
+    ensures { λ r. ⌜ answerNumber r ≡ formatRefusal device g n (length (now (keys .entry))) (now (counts .entry)) (length (now (tape .entry))) position
         (lowerRefusal g n (now (keys .entry)) (part position (formatNeed g n) (now (tape .entry)))) ⌝ }
 {
-    let bad = lengths_refusal(device, g, n, keys.len(), tape.len(), position);
+    let bad = lengths_refusal(device, g, n, keys.len(), counts, tape.len(), position);
     if let Answer::Refused(_) = bad {
         return bad;
     }
@@ -126,20 +134,22 @@ fn format_need(answer: Answer, g: Geometry, n: usize) -> usize
     tape_need(g, n)
 }
 
-// Formatting with a number of keys, which stand end to end, the tape position lent as a record: one draw for all.
+// Formatting with a number of volumes: their keys, which stand end to end, and a count of logical slices for each (document 02, P4), the
+// tape position lent as a record: one draw for all.
 pub fn format(
     device: &mut [u8],
     g: Geometry,
-    count: usize,
+    volumes: usize,
     keys: &[u8],
+    counts: &[usize],
     tape: &[u8],
     position: &mut TapePosition,
 ) -> Answer
-    ensures { λ r. ⌜ FormatLeaves (formatModel (length (now (device .entry))) g count (now (keys .entry)) (now (tape .entry))
+    ensures { λ r. ⌜ FormatLeaves (formatModel (length (now (device .entry))) g volumes (now (keys .entry)) (now (counts .entry)) (now (tape .entry))
         (now (position .entry) .at)) (now (device .entry)) (now (position .entry) .at) (answerNumber r) (now (device .exit))
         (now (position .exit) .at) ⌝ }
 {
-    let answer = format_refusal(device.len(), g, count, keys, tape, position.at);
-    let drawn = tape::draw(tape, position, format_need(answer, g, count));
-    making::carry_out(device, g, count, keys, drawn, answer)
+    let answer = format_refusal(device.len(), g, volumes, keys, counts, tape, position.at);
+    let drawn = tape::draw(tape, position, format_need(answer, g, volumes));
+    making::carry_out(device, g, volumes, keys, counts, drawn, answer)
 }

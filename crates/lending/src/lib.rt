@@ -74,16 +74,17 @@ pub fn close_at(
 pub fn format_at(
     device: &mut [u8],
     g: Geometry,
-    count: usize,
+    volumes: usize,
     keys: &[u8],
+    counts: &[usize],
     tape: &[u8],
     at: &mut usize,
 ) -> Answer
-    ensures { λ r. ⌜ FormatLeaves (formatModel (length (now (device .entry))) g count (now (keys .entry)) (now (tape .entry)) (now (at .entry)))
-        (now (device .entry)) (now (at .entry)) (answerNumber r) (now (device .exit)) (now (at .exit)) ⌝ }
+    ensures { λ r. ⌜ FormatLeaves (formatModel (length (now (device .entry))) g volumes (now (keys .entry)) (now (counts .entry)) (now (tape .entry))
+        (now (at .entry))) (now (device .entry)) (now (at .entry)) (answerNumber r) (now (device .exit)) (now (at .exit)) ⌝ }
 {
     let mut position = TapePosition { at: *at };
-    let r = formatting::format(device, g, count, keys, tape, &mut position);
+    let r = formatting::format(device, g, volumes, keys, counts, tape, &mut position);
     *at = position.at;
     r
 }

@@ -12,16 +12,23 @@ use model::Geometry;
 use refusals::Answer;
 
 // The entries of a deciphered map block into the tables, from index n of the map table on.
-fn load_entries(maps: &mut [u32], owners: &mut [u8], text: &[u8], n: usize, count: usize) -> Answer
-    requires { ⌜ (length (now maps) ≡ 15 * length (now owners)) × (length (now owners) ≤ 4096) × (n + count ≤ length (now maps)) ×
-        (4 * count ≤ length (now text)) ⌝ }
-    ensures { λ r. ⌜ Settled (load (length (now (owners .entry))) (λ i. numberAt (4 * (i - n)) (now (text .entry))) count n (now (maps .entry))
-        (now (owners .entry))) (answerNumber r) (now (maps .exit)) (now (owners .exit)) ⌝ }
+fn load_entries(
+    maps: &mut [u32],
+    owners: &mut [u8],
+    counts: &[usize],
+    text: &[u8],
+    n: usize,
+    count: usize,
+) -> Answer
+    requires { ⌜ (length (now maps) ≡ 15 * length (now owners)) × (length (now owners) ≤ 4096) × (length (now counts) ≡ 15)
+        × (n + count ≤ length (now maps)) × (4 * count ≤ length (now text)) ⌝ }
+    ensures { λ r. ⌜ Settled (load (length (now (owners .entry))) (now (counts .entry)) (λ i. numberAt (4 * (i - n)) (now (text .entry))) count n
+        (now (maps .entry)) (now (owners .entry))) (answerNumber r) (now (maps .exit)) (now (owners .exit)) ⌝ }
 {
     let mut e = 0;
     while e < count {
         let x = places::number_at(text, 4 * e);
-        let bad = tables::settle_one(maps, owners, x, n + e);
+        let bad = tables::settle_one(maps, owners, counts, x, n + e);
         if let Answer::Refused(_) = bad {
             return bad;
         }
@@ -38,13 +45,14 @@ fn load_block(
     t: usize,
     maps: &mut [u32],
     owners: &mut [u8],
+    counts: &[usize],
     n: usize,
     count: usize,
 ) -> Answer
     requires { ⌜ Allowed g × (length (now key) ≡ 32) × (length (now maps) ≡ 15 * length (now owners)) × (length (now owners) ≤ 4096) ×
-        (n + count ≤ length (now maps)) × (count ≤ perBlock g)
+        (length (now counts) ≡ 15) × (n + count ≤ length (now maps)) × (count ≤ perBlock g)
         × (t < mapBlocks g) × (g .b * (1 + mapBlocks g) ≤ length (now header)) ⌝ }
-    ensures { λ r. ⌜ Settled (load (length (now (owners .entry)))
+    ensures { λ r. ⌜ Settled (load (length (now (owners .entry))) (now (counts .entry))
         (λ i. numberAt (4 * (i - n)) (ctr (now (key .entry)) (part (g .b * (1 + t)) 16 (now (header .entry)))
         (part (g .b * (1 + t) + 16) (g .b - 16) (now (header .entry)))))
         count n (now (maps .entry)) (now (owners .entry))) (answerNumber r) (now (maps .exit)) (now (owners .exit)) ⌝ }
@@ -55,7 +63,7 @@ fn load_block(
     let at = from + 16;
     let end = from + g.b;
     ctr::ctr_into(key, &header[from..at], &header[at..end], &mut text[..len]);
-    load_entries(maps, owners, &text[..len], n, count)
+    load_entries(maps, owners, counts, &text[..len], n, count)
 }
 
 // The smaller of two numbers.
@@ -73,10 +81,11 @@ fn load_volume(
     volume: usize,
     maps: &mut [u32],
     owners: &mut [u8],
+    counts: &[usize],
 ) -> Answer
-    requires { ⌜ Allowed g × (length (now key) ≡ 32) × (length (now maps) ≡ 15 * g .p) × (length (now owners) ≡ g .p) × (volume ≤ 14) ×
-        (g .b * (1 + mapBlocks g) ≤ length (now header)) ⌝ }
-    ensures { λ r. ⌜ Settled (load (g .p) (λ n. storedEntry g (now (key .entry)) (now (header .entry)) (n % g .p)) (g .p) (volume * g .p)
+    requires { ⌜ Allowed g × (length (now key) ≡ 32) × (length (now maps) ≡ 15 * g .p) × (length (now owners) ≡ g .p) × (length (now counts) ≡ 15) ×
+        (volume ≤ 14) × (g .b * (1 + mapBlocks g) ≤ length (now header)) ⌝ }
+    ensures { λ r. ⌜ Settled (load (g .p) (now (counts .entry)) (λ n. storedEntry g (now (key .entry)) (now (header .entry)) (n % g .p)) (g .p) (volume * g .p)
         (now (maps .entry)) (now (owners .entry))) (answerNumber r) (now (maps .exit)) (now (owners .exit)) ⌝ }
 {
     let p = g.p;
@@ -86,7 +95,7 @@ fn load_volume(
     let mut done = 0;
     while done < p {
         let count = least(p - done, c);
-        let bad = load_block(header, g, key, t, maps, owners, start + done, count);
+        let bad = load_block(header, g, key, t, maps, owners, counts, start + done, count);
         if let Answer::Refused(_) = bad {
             return bad;
         }
@@ -101,20 +110,21 @@ pub fn load_maps(
     device: &[u8],
     g: Geometry,
     keys: &[u8],
+    counts: &[usize],
     k: usize,
     maps: &mut [u32],
     owners: &mut [u8],
 ) -> Answer
     requires { ⌜ Allowed g × (length (now device) ≡ deviceLength g) × (length (now maps) ≡ 15 * g .p) × (length (now owners) ≡ g .p) × (k ≤ 14) ×
-        (length (now keys) ≡ 480) ⌝ }
-    ensures { λ r. ⌜ Settled (load (g .p) (mapEntries g (headerOf g (now (device .entry))) (now (keys .entry))) ((k + 1) * g .p) 0
+        (length (now keys) ≡ 480) × (length (now counts) ≡ 15) ⌝ }
+    ensures { λ r. ⌜ Settled (load (g .p) (now (counts .entry)) (mapEntries g (headerOf g (now (device .entry))) (now (keys .entry))) ((k + 1) * g .p) 0
         (now (maps .entry)) (now (owners .entry))) (answerNumber r) (now (maps .exit)) (now (owners .exit)) ⌝ }
 {
     let mut v = 0;
     while v < k + 1 {
         let start = places::header_start(g, v);
         let key = places::key_in(keys, v);
-        let bad = load_volume(&device[start..], g, key, v, maps, owners);
+        let bad = load_volume(&device[start..], g, key, v, maps, owners, counts);
         if let Answer::Refused(_) = bad {
             return bad;
         }

@@ -49,17 +49,18 @@ module _ (g : Geometry) (n : ℕ) (drawn : List ℕ) (s : List ℕ) where
   cellPatches-turn keys i =
       sym (patched-++ (cellPatches g n keys drawn i) _ s) ∙ ap (λ (c : ℕ). patched (cellPatches g n keys drawn c) s) (sym (add-one i))
 
-  pub headerPatches-turn : (i : ℕ)
-      → overlay (overlay (patched (headerPatches g n drawn i) s) (headerStart g i) (madeHeader g n drawn i)) (mapStart g i) (madeMap g n drawn i)
-      ≡ patched (headerPatches g n drawn (i + 1)) s
+  pub headerPatches-turn : (counts : List ℕ) (i : ℕ)
+      → overlay (overlay (patched (headerPatches g n counts drawn i) s) (headerStart g i) (madeHeader g n counts drawn i)) (mapStart g i)
+      (madeMap g n drawn i)
+      ≡ patched (headerPatches g n counts drawn (i + 1)) s
   unfolding headerPatches patched
-  headerPatches-turn i =
-      sym (patched-++ (headerPatches g n drawn i) _ s) ∙ ap (λ (c : ℕ). patched (headerPatches g n drawn c) s) (sym (add-one i))
+  headerPatches-turn counts i =
+      sym (patched-++ (headerPatches g n counts drawn i) _ s) ∙ ap (λ (c : ℕ). patched (headerPatches g n counts drawn c) s) (sym (add-one i))
 
   pub cellPatches-none : (keys : List ℕ) → s ≡ patched (cellPatches g n keys drawn 0) s
   unfolding cellPatches patched
   cellPatches-none keys = refl
 
-  pub headerPatches-none : s ≡ patched (headerPatches g n drawn 0) s
+  pub headerPatches-none : (counts : List ℕ) → s ≡ patched (headerPatches g n counts drawn 0) s
   unfolding headerPatches patched
-  headerPatches-none = refl
+  headerPatches-none counts = refl

@@ -11,6 +11,7 @@ ghost use Rattle.model.specs.Parts.{part, overlay, patched};
 ghost use Rattle.model.specs.Geometry.{Allowed, deviceLength, cellStart, headerStart, mapStart};
 ghost use Rattle.model.specs.Format.{drawnVmk, drawnVek, cellIv, headerIvAt, formatNeed, madeCell, madeBelow, madeText, madeHeader, madeMap};
 ghost use Rattle.model.specs.Format.{cellPatches, headerPatches, formatted};
+ghost use Rattle.model.specs.Conditions.{Counted};
 ghost use Rattle.making.specs.Drawn.{Drawn, Makes};
 use model::Geometry;
 use refusals::Answer;
@@ -99,26 +100,28 @@ fn key_below(drawn: &[u8], g: Geometry, n: usize, i: usize) -> [u8; 32]
     below
 }
 
-// The text of header i: VEK, VMK of the volume below, P, S.
-fn header_text(drawn: &[u8], g: Geometry, n: usize, i: usize) -> [u8; 72]
-    requires { ⌜ Drawn g n i (length (now drawn)) ⌝ }
-    ensures { λ r. ⌜ r ≡ madeText g (now (drawn .entry)) i ⌝ }
+// The text of header i: VEK, VMK of the volume below, the volume's N (document 02, P4), S.
+fn header_text(drawn: &[u8], g: Geometry, n: usize, counts: &[usize], i: usize) -> [u8; 72]
+    requires { ⌜ Drawn g n i (length (now drawn)) × Counted (g .p) n (now counts) ⌝ }
+    ensures { λ r. ⌜ r ≡ madeText g (now (counts .entry)) (now (drawn .entry)) i ⌝ }
 {
     let mut text = [0u8; 72];
     places::store(&mut text, 0, vek_in(drawn, g, n, i));
     let below = key_below(drawn, g, n, i);
     places::store(&mut text, 32, &below);
-    places::put_number(&mut text, 64, g.p);
+    let count = counts[i];
+    places::put_number(&mut text, 64, count);
     places::put_number(&mut text, 68, g.s);
     text
 }
 
 // Header i over what stood at the start of its first block: its text sealed under VMK i.
-fn seal_header(device: &mut [u8], g: Geometry, n: usize, drawn: &[u8], i: usize)
-    requires { ⌜ Drawn g n i (length (now drawn)) × (length (now device) ≡ deviceLength g) ⌝ }
-    ensures { λ r. ⌜ now (device .exit) ≡ overlay (now (device .entry)) (headerStart g i) (madeHeader g n (now (drawn .entry)) i) ⌝ }
+fn seal_header(device: &mut [u8], g: Geometry, n: usize, counts: &[usize], drawn: &[u8], i: usize)
+    requires { ⌜ Drawn g n i (length (now drawn)) × Counted (g .p) n (now counts) × (length (now device) ≡ deviceLength g) ⌝ }
+    ensures { λ r. ⌜ now (device .exit) ≡ overlay (now (device .entry)) (headerStart g i)
+        (madeHeader g n (now (counts .entry)) (now (drawn .entry)) i) ⌝ }
 {
-    let text = header_text(drawn, g, n, i);
+    let text = header_text(drawn, g, n, counts, i);
     let vmk = vmk_in(drawn, g, n, i);
     let iv = bytes_at(drawn, header_iv_at(g, n, i), 12);
     let at = places::header_start(g, i);
@@ -137,13 +140,14 @@ fn store_map(device: &mut [u8], g: Geometry, n: usize, drawn: &[u8], i: usize)
 }
 
 // The headers and maps of all n volumes, from 0 up.
-fn seal_headers(device: &mut [u8], g: Geometry, n: usize, drawn: &[u8])
-    requires { ⌜ Allowed g × (n ≤ 15) × (length (now drawn) ≡ formatNeed g n) × (length (now device) ≡ deviceLength g) ⌝ }
-    ensures { λ r. ⌜ now (device .exit) ≡ patched (headerPatches g n (now (drawn .entry)) n) (now (device .entry)) ⌝ }
+fn seal_headers(device: &mut [u8], g: Geometry, n: usize, counts: &[usize], drawn: &[u8])
+    requires { ⌜ Allowed g × (n ≤ 15) × Counted (g .p) n (now counts) × (length (now drawn) ≡ formatNeed g n)
+        × (length (now device) ≡ deviceLength g) ⌝ }
+    ensures { λ r. ⌜ now (device .exit) ≡ patched (headerPatches g n (now (counts .entry)) (now (drawn .entry)) n) (now (device .entry)) ⌝ }
 {
     let mut i = 0;
     while i < n {
-        seal_header(device, g, n, drawn, i);
+        seal_header(device, g, n, counts, drawn, i);
         store_map(device, g, n, drawn, i);
         i += 1;
     }
@@ -157,12 +161,14 @@ pub fn carry_out(
     g: Geometry,
     n: usize,
     keys: &[u8],
+    counts: &[usize],
     drawn: &[u8],
     answer: Answer,
 ) -> Answer
-    requires { ⌜ (answerNumber answer ≡ 0 → Makes g n (length (now keys)) (length (now drawn)) × (length (now device) ≡ deviceLength g)) ⌝ }
+    requires { ⌜ (answerNumber answer ≡ 0 → Makes g n (length (now keys)) (length (now drawn)) × Counted (g .p) n (now counts)
+        × (length (now device) ≡ deviceLength g)) ⌝ }
     ensures { λ r. ⌜ (r ≡ answer) × (now (device .exit) ≡ unlessRefused (answerNumber answer)
-        (formatted g n (now (keys .entry)) (now (drawn .entry))) (now (device .entry))) ⌝ }
+        (formatted g n (now (keys .entry)) (now (counts .entry)) (now (drawn .entry))) (now (device .entry))) ⌝ }
 {
     if let Answer::Refused(_) = answer {
         return answer;
@@ -170,6 +176,6 @@ pub fn carry_out(
     let noise = bytes_at(drawn, 0, device.len());
     block::copy(device, noise);
     seal_cells(device, g, n, keys, drawn);
-    seal_headers(device, g, n, drawn);
+    seal_headers(device, g, n, counts, drawn);
     Answer::Served
 }

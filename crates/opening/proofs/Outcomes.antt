@@ -1,6 +1,6 @@
 -- Laws of what an opening leaves, by what its steps found. Assumes nothing.
 use Prim.Native.Nat.{ℕ, _<_}
-use mathlib.Core.Path.{_≡_, refl, sym, ap, subst}
+use mathlib.Core.Path.{_≡_, refl, sym, ap, ap₂, subst}
 use mathlib.Core.List.{List, []}
 use mathlib.Core.Bool.{true}
 use lib.ListN.{length}
@@ -18,35 +18,37 @@ use Rattle.chaining.specs.Steps.{ChainOpened}
 -- ---- the outcome
 
 module _ (g : Geometry) (perm : List ℕ) (header : ℕ → List ℕ) where
-  withKeys-broken : (ch : Chain) (k n : ℕ) (keys : List ℕ) → ChainOpened ch k n keys → (n ≡ 0 → ⊥) → withKeys g perm header k ch ≡ wiped g n
+  withKeys-broken : (ch : Chain) (k n : ℕ) (keys counts : List ℕ) → ChainOpened ch k n keys counts → (n ≡ 0 → ⊥)
+      → withKeys g perm header k ch ≡ wiped g n
   unfolding withKeys
-  withKeys-broken (Keys ks) k n keys (e, q) h = absurd (h e)
-  withKeys-broken (Broken m) k n keys (e, q) h = ap (wiped g) (sym e)
+  withKeys-broken (Keys veks ns) k n keys counts (e, q, t) h = absurd (h e)
+  withKeys-broken (Broken m) k n keys counts (e, q) h = ap (wiped g) (sym e)
 
-  withKeys-served : (ch : Chain) (k n : ℕ) (keys : List ℕ) → ChainOpened ch k n keys → n ≡ 0
-      → withKeys g perm header k ch ≡ withTables g perm k keys (loadMaps g header keys k)
+  withKeys-served : (ch : Chain) (k n : ℕ) (keys counts : List ℕ) → ChainOpened ch k n keys counts → n ≡ 0
+      → withKeys g perm header k ch ≡ withTables g perm k keys counts (loadMaps g header keys counts k)
   unfolding withKeys
-  withKeys-served (Keys ks) k n keys (e, q) z = ap (λ (x : List ℕ). withTables g perm k x (loadMaps g header x k)) (sym q)
-  withKeys-served (Broken m) k n keys (e, q) z = absurd (q z)
+  withKeys-served (Keys veks ns) k n keys counts (e, q, t) z =
+      ap₂ (λ (x y : List ℕ). withTables g perm k x y (loadMaps g header x y k)) (sym q) (sym t)
+  withKeys-served (Broken m) k n keys counts (e, q) z = absurd (q z)
 
   pub withCell-none : {o : Cell} → o ≡ NoCell → withCell g perm header o ≡ wiped g 6
   unfolding withCell
   withCell-none e = rw e
 
-  module _ {o : Cell} (k : ℕ) (vmk : List ℕ) (at : o ≡ At k vmk) (n : ℕ) (keys : List ℕ)
-      (opened : ChainOpened (chain g header k vmk []) k n keys) where
+  module _ {o : Cell} (k : ℕ) (vmk : List ℕ) (at : o ≡ At k vmk) (n : ℕ) (keys counts : List ℕ)
+      (opened : ChainOpened (chain g header k vmk [] []) k n keys counts) where
     pub withCell-broken : (n ≡ 0 → ⊥) → withCell g perm header o ≡ wiped g n
     unfolding withCell
-    withCell-broken h = rw at (withKeys-broken (chain g header k vmk []) k n keys opened h)
+    withCell-broken h = rw at (withKeys-broken (chain g header k vmk [] []) k n keys counts opened h)
 
-    pub withCell-served : n ≡ 0 → withCell g perm header o ≡ withTables g perm k keys (loadMaps g header keys k)
+    pub withCell-served : n ≡ 0 → withCell g perm header o ≡ withTables g perm k keys counts (loadMaps g header keys counts k)
     unfolding withCell
-    withCell-served z = rw at (withKeys-served (chain g header k vmk []) k n keys opened z)
+    withCell-served z = rw at (withKeys-served (chain g header k vmk [] []) k n keys counts opened z)
 
-pub withTables-spoilt : (g : Geometry) (perm : List ℕ) (k : ℕ) (keys : List ℕ) {l : Loaded} {n : ℕ} → l ≡ Spoilt n
-    → withTables g perm k keys l ≡ wiped g n
+pub withTables-spoilt : (g : Geometry) (perm : List ℕ) (k : ℕ) (keys counts : List ℕ) {l : Loaded} {n : ℕ} → l ≡ Spoilt n
+    → withTables g perm k keys counts l ≡ wiped g n
 unfolding withTables
-withTables-spoilt g perm k keys e = rw e
+withTables-spoilt g perm k keys counts e = rw e
 
 module _ (device : List ℕ) (g : Geometry) (key maps owners perm : List ℕ) where
   pub openModel-refused : {n : ℕ} → n ≡ openRefusal g (length device) (length key) (length maps) (length owners) perm → 0 < n
@@ -67,11 +69,12 @@ pub leaves-refused : (m w : List ℕ) (n : ℕ) {o : OpenOutcome} {answer : Open
 leaves-refused m w n e a em ew s = rw e (record { answered = a; mapped = em; owned = ew; handed = s })
 
 -- A served one, with the start place that was found in the owner table.
-pub leaves-opened : (g : Geometry) (perm : List ℕ) (k : ℕ) (keys : List ℕ) {l : Loaded} {maps owners : List ℕ} → l ≡ Tables maps owners
+pub leaves-opened : (g : Geometry) (perm : List ℕ) (k : ℕ) (keys counts : List ℕ) {l : Loaded} {maps owners : List ℕ} → l ≡ Tables maps owners
     → length owners ≡ g .p → (n : ℕ) → n ≡ startPlace (length owners) (firstFree owners (length owners) 0 perm)
-    → OpenLeaves (withTables g perm k keys l) (OpenTo k) maps owners (record { geometry = g; k = k; keys = keys; opened = true; start = n })
+    → OpenLeaves (withTables g perm k keys counts l) (OpenTo k) maps owners
+    (record { geometry = g; k = k; keys = keys; opened = true; start = n; counts = counts })
 unfolding withTables
-leaves-opened g perm k keys e long n first =
+leaves-opened g perm k keys counts e long n first =
     rw (e, first, long) (record { answered = refl; mapped = refl; owned = refl; handed = refl })
 
 pub leaves-by : {o p : OpenOutcome} → o ≡ p → (answer : OpenResult) (maps owners : List ℕ) (session : Session)

@@ -7,7 +7,7 @@ ghost use Prim.Native.Nat.{_≤_};
 ghost use lib.ListN.{length};
 ghost use Rattle.refusals.specs.Numbers.{answerNumber};
 ghost use Rattle.model.specs.Geometry.{Allowed, deviceLength, cellOf, headerOf};
-ghost use Rattle.model.specs.Session.{noKeys};
+ghost use Rattle.model.specs.Session.{noKeys, noCounts};
 ghost use Rattle.model.specs.Opening.{firstCell, noMaps, noOwners, openRefusal, noSession, loadMaps, withTables, withCell, openModel};
 ghost use Rattle.model.specs.Answers.{openResult, OpenLeaves};
 use model::Geometry;
@@ -61,17 +61,26 @@ fn no_keys() -> [u8; 480]
     [0u8; 480]
 }
 
+// No count.
+fn no_counts() -> [usize; 15]
+    ensures { λ r. ⌜ r ≡ noCounts ⌝ }
+{
+    [0usize; 15]
+}
+
 // The session of a refused opening: closed, its numbers and keys 0.
 fn no_session() -> Session
     ensures { λ r. ⌜ r ≡ noSession ⌝ }
 {
     let none = no_keys();
+    let zeros = no_counts();
     Session {
         geometry: Geometry { b: 0, s: 0, p: 0 },
         k: 0,
         keys: none,
         opened: false,
         start: 0,
+        counts: zeros,
     }
 }
 
@@ -91,15 +100,16 @@ fn open_maps(
     g: Geometry,
     k: usize,
     keys: [u8; 480],
+    counts: [usize; 15],
     maps: &mut [u32],
     owners: &mut [u8],
     perm: &[u32],
 ) -> Opening
     requires { ⌜ Allowed g × (length (now device) ≡ deviceLength g) × (k ≤ 14) × (now maps ≡ noMaps g) × (now owners ≡ noOwners g) ⌝ }
-    ensures { λ r. ⌜ OpenLeaves (withTables g (now (perm .entry)) k keys (loadMaps g (headerOf g (now (device .entry))) keys k))
+    ensures { λ r. ⌜ OpenLeaves (withTables g (now (perm .entry)) k keys counts (loadMaps g (headerOf g (now (device .entry))) keys counts k))
         (openResult (r .answer)) (now (maps .exit)) (now (owners .exit)) (r .session) ⌝ }
 {
-    let bad = loading::load_maps(device, g, &keys, k, maps, owners);
+    let bad = loading::load_maps(device, g, &keys, &counts, k, maps, owners);
     if let Answer::Refused(r) = bad {
         tables::unmap(maps);
         places::clear(owners);
@@ -114,6 +124,7 @@ fn open_maps(
             keys: keys,
             opened: true,
             start: first,
+            counts: counts,
         },
     }
 }
@@ -138,11 +149,12 @@ fn open_volumes(
         Found::Nothing => refused(Refusal::NoCell),
         Found::At(k) => {
             let mut keys = no_keys();
-            let bad = chaining::open_chain(device, g, k, &mut vmk, &mut keys);
+            let mut counts = no_counts();
+            let bad = chaining::open_chain(device, g, k, &mut vmk, &mut keys, &mut counts);
             if let Answer::Refused(r) = bad {
                 return refused(r);
             }
-            open_maps(device, g, k, keys, maps, owners, perm)
+            open_maps(device, g, k, keys, counts, maps, owners, perm)
         }
     }
 }

@@ -8,7 +8,7 @@ ghost use lib.ListN.{length, replicate};
 ghost use Rattle.refusals.specs.Numbers.{refusalNumber, answerNumber};
 ghost use Rattle.ctr.specs.CounterMode.{ctr};
 ghost use Rattle.model.specs.Parts.{overlay};
-ghost use Rattle.model.specs.Geometry.{Allowed, badGeometry, perBlock, mapBlocks, headerBlocks, deviceLength, numberAt, fourBytes};
+ghost use Rattle.model.specs.Geometry.{Allowed, badGeometry, badCount, anyBadCount, perBlock, mapBlocks, headerBlocks, deviceLength, numberAt, fourBytes};
 ghost use Rattle.model.specs.Geometry.{headerStart, mapStart, sliceStart, ivStart, blockStart};
 ghost use Rattle.model.specs.Session.{keyIn};
 use model::Geometry;
@@ -39,6 +39,28 @@ pub fn check_geometry(refusal: Refusal, g: Geometry) -> Answer
         return Answer::Refused(refusal);
     }
     Answer::Served
+}
+
+// Whether a count of logical slices is not 1 to p (document 02, P4).
+pub fn is_bad_count(p: usize, n: usize) -> bool
+    ensures { λ r. ⌜ r ≡ badCount p n ⌝ }
+{
+    n < 1 || p < n
+}
+
+// Whether one of the first n counts is not.
+pub fn any_bad_count(counts: &[usize], p: usize, n: usize) -> bool
+    requires { ⌜ n ≤ length (now counts) ⌝ }
+    ensures { λ r. ⌜ r ≡ anyBadCount p (now (counts .entry)) n ⌝ }
+{
+    let mut i = 0;
+    while i < n {
+        if is_bad_count(p, counts[i]) {
+            return true;
+        }
+        i += 1;
+    }
+    false
 }
 
 // The entries in a map block.

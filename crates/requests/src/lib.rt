@@ -4,13 +4,14 @@ ghost use mathlib.Core.Path.{_≡_};
 ghost use Prim.Native.Nat.{_*_, _≤_};
 ghost use lib.ListN.{length};
 ghost use Rattle.refusals.specs.Numbers.{answerNumber};
-ghost use Rattle.model.specs.Geometry.{Allowed};
-ghost use Rattle.model.specs.Session.{standing, asked};
+ghost use Rattle.model.specs.Session.{blockCount, standing, asked};
+ghost use Rattle.model.specs.Conditions.{Usable};
 use model::Session;
 use refusals::Answer;
 use refusals::Refusal;
 
-// 20, 2 and 4, from the lengths of the device and the tables. The session is tested before any arithmetic on it.
+// 20, 2 and 4, from the lengths of the device and the tables. The session, its counts too, is tested before any arithmetic
+// on it.
 pub fn check_standing(device: usize, maps: usize, owners: usize, session: Session) -> Answer
     ensures { λ r. ⌜ answerNumber r ≡ standing device maps owners session 0 ⌝ }
 {
@@ -28,6 +29,10 @@ pub fn check_standing(device: usize, maps: usize, owners: usize, session: Sessio
     if g.p < session.start {
         return Answer::Refused(Refusal::NotOpen);
     }
+    let counts = session.counts;
+    if places::any_bad_count(&counts, g.p, session.k + 1) {
+        return Answer::Refused(Refusal::NotOpen);
+    }
     if device != places::device_length(g) {
         return Answer::Refused(Refusal::DeviceLength);
     }
@@ -40,6 +45,16 @@ pub fn check_standing(device: usize, maps: usize, owners: usize, session: Sessio
     Answer::Served
 }
 
+// The blocks of an open volume: N × S (document 02, P4).
+pub fn block_count(session: Session, volume: usize) -> usize
+    requires { ⌜ Usable session × (volume ≤ session .k) ⌝ }
+    ensures { λ r. ⌜ r ≡ blockCount session volume ⌝ }
+{
+    let g = session.geometry;
+    let counts = session.counts;
+    counts[volume] * g.s
+}
+
 // 11, 12, 13 and 9 of a block asked for in a session that stands. The address is tested before it is divided.
 pub fn check_asked(
     maps: &[u32],
@@ -48,14 +63,14 @@ pub fn check_asked(
     address: usize,
     len: usize,
 ) -> Answer
-    requires { ⌜ Allowed (session .geometry) × (session .k ≤ 14) × (length (now maps) ≡ 15 * session .geometry .p) ⌝ }
+    requires { ⌜ Usable session × (length (now maps) ≡ 15 * session .geometry .p) ⌝ }
     ensures { λ r. ⌜ answerNumber r ≡ asked (now (maps .entry)) session volume address len ⌝ }
 {
     if session.k < volume {
         return Answer::Refused(Refusal::VolumeAbove);
     }
     let g = session.geometry;
-    if g.p * g.s <= address {
+    if block_count(session, volume) <= address {
         return Answer::Refused(Refusal::AddressAbove);
     }
     if len != g.b {

@@ -3,7 +3,7 @@ ghost use mathlib.Core.Path.{_≡_};
 ghost use Prim.Native.Nat.{_+_, _*_, _≤_, _<_};
 ghost use lib.ListN.{length, replicate, set};
 ghost use Rattle.refusals.specs.Numbers.{answerNumber};
-ghost use Rattle.model.specs.Session.{slot, entry, unmapped};
+ghost use Rattle.model.specs.Session.{slot, entry, unmapped, placed};
 ghost use Rattle.model.specs.Opening.{missing, settle, Tables};
 ghost use Rattle.model.specs.Search.{firstFree, startPlace};
 ghost use Rattle.model.specs.Close.{anyBad};
@@ -39,16 +39,25 @@ pub fn unmap(maps: &mut [u32])
     }
 }
 
-// Whether one of the first n entries is neither the mark nor below p.
-pub fn any_bad(maps: &[u32], p: usize, n: usize) -> bool
-    requires { ⌜ n ≤ length (now maps) ⌝ }
-    ensures { λ r. ⌜ r ≡ anyBad p (now (maps .entry)) n ⌝ }
+// Whether a slice may stand at index i of the map table: it is below p, and its logical slice below the volume's count
+// (document 02, P4).
+fn is_placed(counts: &[usize], p: usize, i: usize, slice: usize) -> bool
+    requires { ⌜ (length (now counts) ≡ 15) × (i < 15 * p) ⌝ }
+    ensures { λ r. ⌜ r ≡ placed p (now (counts .entry)) i slice ⌝ }
+{
+    slice < p && i % p < counts[i / p]
+}
+
+// Whether one of the first n entries is neither the mark nor a slice that may stand there.
+pub fn any_bad(maps: &[u32], counts: &[usize], p: usize, n: usize) -> bool
+    requires { ⌜ (n ≤ length (now maps)) × (length (now counts) ≡ 15) × (n ≤ 15 * p) ⌝ }
+    ensures { λ r. ⌜ r ≡ anyBad p (now (counts .entry)) (now (maps .entry)) n ⌝ }
 {
     let mut i = 0;
     while i < n {
         let entry = maps[i] as usize;
         if entry != UNMAPPED {
-            if p <= entry {
+            if !is_placed(counts, p, i, entry) {
                 return true;
             }
         }
@@ -160,16 +169,22 @@ pub fn start_place(owners: &[u8], perm: &[u32]) -> usize
 // ---- loading
 
 // Entry x at index i of the map table into the tables so far, or refusal 9 or 10.
-pub fn settle_one(maps: &mut [u32], owners: &mut [u8], x: usize, i: usize) -> Answer
-    requires { ⌜ (length (now maps) ≡ 15 * length (now owners)) × (length (now owners) ≤ 4096) × (i < length (now maps)) ⌝ }
-    ensures { λ r. ⌜ Settled (settle (length (now (owners .entry))) x i (now (maps .entry)) (now (owners .entry)) Tables) (answerNumber r)
-        (now (maps .exit)) (now (owners .exit)) ⌝ }
+pub fn settle_one(
+    maps: &mut [u32],
+    owners: &mut [u8],
+    counts: &[usize],
+    x: usize,
+    i: usize,
+) -> Answer
+    requires { ⌜ (length (now maps) ≡ 15 * length (now owners)) × (length (now owners) ≤ 4096) × (length (now counts) ≡ 15) × (i < length (now maps)) ⌝ }
+    ensures { λ r. ⌜ Settled (settle (length (now (owners .entry))) (now (counts .entry)) x i (now (maps .entry)) (now (owners .entry)) Tables)
+        (answerNumber r) (now (maps .exit)) (now (owners .exit)) ⌝ }
 {
     if x == UNMAPPED {
         return Answer::Served;
     }
     let p = owners.len();
-    if p <= x {
+    if !is_placed(counts, p, i, x) {
         return Answer::Refused(Refusal::BadEntry);
     }
     if owners[x] != 0 {

@@ -63,12 +63,12 @@ module _ (h : Held) (perm : List ℕ) (i a : ℕ) where
   module _ (fits : FitsOf h) (places : length perm ≡ g .p) (room : h .position + 4096 ≤ 4096 * 4096) where
     -- Of the refusals before the search only 11 and 12 are left.
     writeRefusal-asked : writeRefusal (deviceLength g) (h .maps) (h .owners) (h .session) i a (length text) (length perm)
-        ≡ refuse (ltb (h .session .k) i) 11 (refuse (leb (blockCount g i) a) 12 0)
+        ≡ refuse (ltb (h .session .k) i) 11 (refuse (leb (blockCount (h .session) i) a) 12 0)
     unfolding writeRefusal asked
     writeRefusal-asked =
         standing-stands _ _ _ _ _ (fits .stands)
         ∙ refuse-false _ _ _ (equal-passes _ _ places)
-        ∙ ap (λ (n : ℕ). refuse (ltb (h .session .k) i) 11 (refuse (leb (blockCount g i) a) 12 n))
+        ∙ ap (λ (n : ℕ). refuse (ltb (h .session .k) i) 11 (refuse (leb (blockCount (h .session) i) a) 12 n))
         (refuse-false _ _ _ (equal-passes _ _ (zeros-length (g .b))) ∙ refuse-false _ _ _ (badEntry-fits _ _ (fits .entries _)))
 
     -- The tape has what a write needs.

@@ -7,7 +7,8 @@ use lib.ListN.{getD, set, replicate}
 use Rattle.refusals.specs.Numbers.{refuse}
 use Rattle.block.specs.Bytes.{numberAfter, bigEndian}
 use Rattle.model.specs.declared.Geometry.{Geometry}
-use Rattle.model.specs.Geometry.{badGeometry, mapBlocks, headerBlocks, deviceLength, sliceStart, blockStart}
+use Rattle.model.specs.Parts.{anyBelow}
+use Rattle.model.specs.Geometry.{badGeometry, anyBadCount, mapBlocks, headerBlocks, deviceLength, sliceStart, blockStart}
 use Rattle.model.specs.Session.{held, unmapped, standing, asked, short}
 use Rattle.model.specs.Search.{search, firstFree}
 use Rattle.model.specs.Write.{writeRefusal, writeModel}
@@ -55,7 +56,7 @@ abbrev Leads : ℕ → Type 0
 Leads n = step (getD states n start) (getD exampleLines n []) ≡ record { state = getD states (suc n) start; answer = getD exampleAnswers n [] }
 
 each-leads : Leads 0 × Leads 1 × Leads 2 × Leads 3 × Leads 4 × Leads 5
-unfolding refuse numberAfter bigEndian badGeometry mapBlocks headerBlocks deviceLength sliceStart blockStart standing asked short search firstFree
+unfolding refuse numberAfter bigEndian badGeometry anyBelow anyBadCount mapBlocks headerBlocks deviceLength sliceStart blockStart standing asked short search firstFree
     writeRefusal writeModel value digits decode onSize pairs onOrder onClaim onKind onFrame step
 each-leads =
     let text = zeros-length 1024 in

@@ -22,6 +22,7 @@ use Rattle.lines.specs.Hexadecimal.{Spelt, Bytes, Neither, decode}
 use Rattle.lines.specs.Answers.{served}
 use Rattle.claims.specs.State.{State, empty}
 use Rattle.claims.specs.Claims.{Stepped, refusedBy, printed, written}
+use Rattle.claims.proofs.Claims.{allOpen-counted}
 use Rattle.frames.specs.Frames.{sizeOf, onSize, pairs, onOrder, counting, onClaim, onKind, onFrame}
 use Rattle.walk.specs.Lines.{step}
 use Rattle.walk.specs.Theorems.{Reached, begin, after, answerNumbers, Listed, byte, values}
@@ -61,7 +62,7 @@ empty-fits g ok =
     record {
       stands =
           record {
-            usable = record { opened = refl; allowed = ok; top = lit≤ tt; place = omega arith };
+            usable = record { opened = refl; allowed = ok; top = lit≤ tt; place = omega arith; counted = allOpen-counted g 0 ok };
             long = refl;
             tables = (length-replicate _ _, length-replicate _ _);
           };
@@ -76,7 +77,11 @@ started-fits maps owners s f start l =
     let u = t .usable in
     record {
       stands =
-          record { usable = record { opened = u .opened; allowed = u .allowed; top = u .top; place = l }; long = t .long; tables = t .tables };
+          record {
+            usable = record { opened = u .opened; allowed = u .allowed; top = u .top; place = l; counted = u .counted };
+            long = t .long;
+            tables = t .tables;
+          };
       entries = f .entries;
     }
 

@@ -26,7 +26,7 @@ unfolding writeRefusal refuse
 returns-2 c = sym (standing-stands _ _ _ _ _ (stands (c .before .before .before)) ∙ simp (ne-eqb _ _ (c .if1 .taken)))
 
 check-asked-requires : tie.Need-check-asked-requires
-check-asked-requires c κs = let s = stands (c .before .before .before) in (s .usable .allowed, s .usable .top, s .tables .0)
+check-asked-requires c κs = let s = stands (c .before .before .before) in (s .usable, s .tables .0)
 
 returns-3 : tie.Need-returns-3
 unfolding writeRefusal refuse

@@ -18,11 +18,11 @@ use Rattle.formatting.proofs.format_refusal.Tie as tie
 -- Past the refusals for what was handed in.
 module _ (c : tie.After-enum-told2) where
   abbrev start : tie.Start
-  start = c .before .before .before .before .before
+  start = c .before .before .before .before .before .before
 
-  handed : let a = start .args in Formattable (a .device) (a .g) (a .n) (length (a .keys .now)) (length (a .tape .now)) (a .position)
+  handed : let a = start .args in Formattable (a .device) (a .g) (a .n) (length (a .keys .now)) (a .counts .now) (length (a .tape .now)) (a .position)
   handed =
-      formatRefusal-none _ _ _ _ _ _ 0 (sym (c .before .before .lengths-refusal .ensures) ∙ ap answerNumber (c .enum-told2 .given .1))
+      formatRefusal-none _ _ _ _ _ _ _ 0 (sym (c .before .before .lengths-refusal .ensures) ∙ ap answerNumber (c .enum-told2 .given .1))
 
 -- What the last test says of the keys.
 module _ (c : tie.After-lower-opens) where
@@ -42,7 +42,7 @@ module _ (c : tie.After-lower-opens) where
 returns : tie.Need-returns
 returns c =
     let e = c .before .before .lengths-refusal .ensures in
-    e ∙ sym (formatRefusal-first _ _ _ _ _ _ (rw e at (answer-positive (c .enum-told .given .1))) _)
+    e ∙ sym (formatRefusal-first _ _ _ _ _ _ _ (rw e at (answer-positive (c .enum-told .given .1))) _)
 
 lower-opens-requires : tie.Need-lower-opens-requires
 lower-opens-requires c κs =
@@ -54,13 +54,13 @@ returns-2 : tie.Need-returns-2
 unfolding refuse
 returns-2 c =
     let tried = c .before in
-    sym (formatRefusal-rest _ _ _ _ _ _ (handed (told tried)) _ ∙ ap (λ (b : Bool). refuse b 24 0) (lower tried ∙ c .if1 .taken))
+    sym (formatRefusal-rest _ _ _ _ _ _ _ (handed (told tried)) _ ∙ ap (λ (b : Bool). refuse b 24 0) (lower tried ∙ c .if1 .taken))
 
 returns-3 : tie.Need-returns-3
 unfolding refuse
 returns-3 c =
     let tried = c .before in
-    sym (formatRefusal-rest _ _ _ _ _ _ (handed (told tried)) _ ∙ ap (λ (b : Bool). refuse b 24 0) (lower tried ∙ c .if1 .left))
+    sym (formatRefusal-rest _ _ _ _ _ _ _ (handed (told tried)) _ ∙ ap (λ (b : Bool). refuse b 24 0) (lower tried ∙ c .if1 .left))
 
 pub format-refusal-spec : {M : Type 1} → statement M
 format-refusal-spec =

@@ -20,11 +20,11 @@ use Rattle.loading.proofs.load_block.Tie as tie
 -- ---- places of the code, and what is known there
 
 abbrev start : tie.After-struct-known2 → tie.Start
-start c = c .before .before .before .before .before .before
+start c = c .before .before .before .before .before .before .before
 
 -- The block lies within the header.
 inside : (s : tie.Start) → let a = s .args in a .g .b * (1 + a .t) + a .g .b ≤ length (a .header .now)
-inside s = omega (arith, mapBlock-fits (s .args .g) (s .pre .0) (s .args .t) (s .pre .6), s .pre .7)
+inside s = omega (arith, mapBlock-fits (s .args .g) (s .pre .0) (s .args .t) (s .pre .7), s .pre .8)
 
 -- The local's first bytes, as many as the block has entries.
 local-length : (s : tie.Start) → length (take (s .args .g .b - 16) (replicate {A = ℕ} 4096 0)) ≡ s .args .g .b - 16
@@ -50,7 +50,7 @@ module _ (c : tie.After-ctr-into) where
 -- ---- the needs
 
 add-from : tie.Need-add-from
-add-from c = let s = c .before .before .before .before .before in omega (arith, s .pre .6, mapBlocks-small (s .args .g) (s .pre .0))
+add-from c = let s = c .before .before .before .before .before .before in omega (arith, s .pre .7, mapBlocks-small (s .args .g) (s .pre .0))
 
 mul-from : tie.Need-mul-from
 mul-from c = let s = start c in omega (arith, inside s, s .good .0)
@@ -107,7 +107,8 @@ load-entries-requires c κs =
       s .pre .2,
       s .pre .3,
       s .pre .4,
-      subst⁻¹ (λ (n : ℕ). 4 * s .args .count ≤ n) (ap length (deciphered d) ∙ text-length d) (omega (arith, s .pre .5)),
+      s .pre .5,
+      subst⁻¹ (λ (n : ℕ). 4 * s .args .count ≤ n) (ap length (deciphered d) ∙ text-length d) (omega (arith, s .pre .6)),
     )
 
 returns : tie.Need-returns
@@ -124,8 +125,9 @@ returns c =
     ∙ d .ctr-into .ensures
     ∙ ap₂ (ctr (a .key .now)) (part-lent header from 16 refl) (ap (λ (n : ℕ). part (from + 16) n header) end) in
     let p = length (a .owners .now) in
+    let counts = a .counts .now in
     settled-by
-    (ap (λ (t : List ℕ). load p (λ (i : ℕ). numberAt (4 * (i - a .n)) t) (a .count) (a .n) (a .maps .now) (a .owners .now)) entries)
+    (ap (λ (t : List ℕ). load p counts (λ (i : ℕ). numberAt (4 * (i - a .n)) t) (a .count) (a .n) (a .maps .now) (a .owners .now)) entries)
     _ _ _ (loading .load-entries .ensures)
 
 pub load-block-spec : {M : Type 1} → statement M

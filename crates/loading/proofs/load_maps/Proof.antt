@@ -21,15 +21,15 @@ use Rattle.loading.proofs.load_maps.Statement.{statement}
 use Rattle.loading.proofs.load_maps.Tie as tie
 
 abbrev Inv-loop : tie.InvT-loop
-Inv-loop device g keys k maps₀ owners₀ v₀ maps owners v =
+Inv-loop device g keys counts k maps₀ owners₀ v₀ maps owners v =
     (v ≤ k + 1)
     × (length maps ≡ length maps₀)
     × (length owners ≡ length owners₀)
-    × (load (g .p) (mapEntries g (headerOf g device) keys) ((k + 1) * g .p) 0 maps₀ owners₀
-    ≡ load (g .p) (mapEntries g (headerOf g device) keys) ((k + 1) * g .p - v * g .p) (v * g .p) maps owners)
+    × (load (g .p) counts (mapEntries g (headerOf g device) keys) ((k + 1) * g .p) 0 maps₀ owners₀
+    ≡ load (g .p) counts (mapEntries g (headerOf g device) keys) ((k + 1) * g .p - v * g .p) (v * g .p) maps owners)
 
 abbrev μ-loop : tie.MeasureT-loop
-μ-loop device g keys k maps₀ owners₀ v₀ maps owners v = (k + 1) - v
+μ-loop device g keys counts k maps₀ owners₀ v₀ maps owners v = (k + 1) - v
 
 -- ---- a turn
 
@@ -38,7 +38,7 @@ module _ (c : tie.After-header-start Inv-loop μ-loop) where
   looped = c .before .before
 
   abbrev start : tie.Start Inv-loop μ-loop
-  start = looped .before .before .before .before .before
+  start = looped .before .before .before .before .before .before
 
   -- It stands at one of the volumes 0 to k, whose header lies on the device.
   taken : looped .loop .v < start .args .k + 1
@@ -59,7 +59,7 @@ settled : (c : tie.After-load-volume Inv-loop μ-loop)
     → let l = looped (placed c) .loop in
     let a = start (placed c) .args in
     let f = mapEntries (a .g) (headerOf (a .g) (a .device .now)) (a .keys .now) in
-    Settled (load (a .g .p) f (a .g .p) (l .v * a .g .p) (l .maps) (l .owners))
+    Settled (load (a .g .p) (a .counts .now) f (a .g .p) (l .v * a .g .p) (l .maps) (l .owners))
     (answerNumber (c .load-volume .result)) (c .load-volume .last .1 .1 .1 .1 .0) (c .load-volume .last .1 .1 .1 .1 .1 .0)
 settled c =
     let at = placed c in
@@ -68,12 +68,13 @@ settled c =
     let g = s .args .g in
     let device = s .args .device .now in
     let keys = s .args .keys .now in
+    let counts = s .args .counts .now in
     let from = at .header-start .result in
     let rest : List ℕ = take (length device - from) (drop from device) in
     settled-by
-    (ap (λ (key : List ℕ). load (g .p) (λ (n : ℕ). storedEntry g key rest (n % g .p)) (g .p) (l .v * g .p) (l .maps) (l .owners))
+    (ap (λ (key : List ℕ). load (g .p) counts (λ (n : ℕ). storedEntry g key rest (n % g .p)) (g .p) (l .v * g .p) (l .maps) (l .owners))
     (c .before .before .before .before .key-in .ensures .0)
-    ∙ load-cong (g .p) _ (mapEntries g (headerOf g device) keys) (g .p) (l .v * g .p) (l .maps) (l .owners)
+    ∙ load-cong (g .p) counts _ (mapEntries g (headerOf g device) keys) (g .p) (l .v * g .p) (l .maps) (l .owners)
     (mapEntries-volume g (s .pre .0) device keys (l .v) (volume-most at) (s .pre .1) (at .header-start .ensures)))
     _ _ _ (c .load-volume .ensures)
 
@@ -83,8 +84,9 @@ next : (c : tie.After-load-volume Inv-loop μ-loop)
     let a = start (placed c) .args in
     let p = a .g .p in
     let f = mapEntries (a .g) (headerOf (a .g) (a .device .now)) (a .keys .now) in
-    load p f ((a .k + 1) * p) 0 (a .maps .now) (a .owners .now)
-    ≡ andThen (load p f p (l .v * p) (l .maps) (l .owners)) (load p f ((a .k + 1) * p - (l .v + 1) * p) (l .v * p + p))
+    load p (a .counts .now) f ((a .k + 1) * p) 0 (a .maps .now) (a .owners .now)
+    ≡ andThen (load p (a .counts .now) f p (l .v * p) (l .maps) (l .owners))
+    (load p (a .counts .now) f ((a .k + 1) * p - (l .v + 1) * p) (l .v * p + p))
 next c =
     let l = looped (placed c) .loop in
     let a = start (placed c) .args in
@@ -93,21 +95,21 @@ next c =
     let w = mul-le-mul {n₁ = l .v + 1} {m₁ = p} {n₂ = a .k + 1} {m₂ = p} (omega (arith, taken (placed c))) (omega arith) in
     let k : (a .k + 1) * p - l .v * p ≡ p + ((a .k + 1) * p - (l .v + 1) * p) = omega (arith, w) in
     l .inv .3
-    ∙ ap (λ (j : ℕ). load p f j (l .v * p) (l .maps) (l .owners)) k
-    ∙ load-run p f p ((a .k + 1) * p - (l .v + 1) * p) (l .v * p) (l .maps) (l .owners)
+    ∙ ap (λ (j : ℕ). load p (a .counts .now) f j (l .v * p) (l .maps) (l .owners)) k
+    ∙ load-run p (a .counts .now) f p ((a .k + 1) * p - (l .v + 1) * p) (l .v * p) (l .maps) (l .owners)
 
 -- ---- the needs
 
 loop-holds : tie.Need-loop-holds Inv-loop μ-loop
 loop-holds c =
-    let a = c .before .before .before .before .args in
+    let a = c .before .before .before .before .before .args in
     let p = a .g .p in
     let f = mapEntries (a .g) (headerOf (a .g) (a .device .now)) (a .keys .now) in
     let z : (a .k + 1) * p ≡ (a .k + 1) * p - 0 * p = omega arith in (
       omega arith,
       refl,
       refl,
-      ap₂ (λ (j k : ℕ). load p f j k (a .maps .now) (a .owners .now)) z (sym (zero-mul p)),
+      ap₂ (λ (j k : ℕ). load p (a .counts .now) f j k (a .maps .now) (a .owners .now)) z (sym (zero-mul p)),
     )
 
 key-in-requires : tie.Need-key-in-requires Inv-loop μ-loop
@@ -132,6 +134,7 @@ load-volume-requires c κs =
       keyed .key-in .ensures .1,
       l .inv .1 ∙ s .pre .2,
       l .inv .2 ∙ s .pre .3,
+      s .pre .6,
       volume-most at,
       omega (arith, long, begins at),
     )
@@ -156,16 +159,16 @@ loop-again c =
       turn .load-volume .kept .1 .1 .1 .1 .1 .0 ∙ l .inv .2,
       next turn
           ∙ andThen-tables _ (settled-tables _ _ _ _ (settled turn) (answer-served (c .enum-told2 .given .1)))
-          ∙ ap (λ (n : ℕ). load p f ((a .k + 1) * p - (l .v + 1) * p) n (left .0) (left .1 .0)) k,
+          ∙ ap (λ (n : ℕ). load p (a .counts .now) f ((a .k + 1) * p - (l .v + 1) * p) n (left .0) (left .1 .0)) k,
     )
 
 returns-2 : tie.Need-returns-2 Inv-loop μ-loop
 returns-2 c =
     let l = c .before .loop in
-    let a = c .before .before .before .before .before .before .args in
+    let a = c .before .before .before .before .before .before .before .args in
     let p = a .g .p in
     let e : l .v ≡ a .k + 1 = omega arith in
-    tables-settled (l .inv .3 ∙ load-done _ _ ((a .k + 1) * p - l .v * p) (l .v * p) (l .maps) (l .owners) (rw e (omega arith)))
+    tables-settled (l .inv .3 ∙ load-done _ _ _ ((a .k + 1) * p - l .v * p) (l .v * p) (l .maps) (l .owners) (rw e (omega arith)))
 
 pub load-maps-spec : {M : Type 1} → statement M
 load-maps-spec =

@@ -21,16 +21,16 @@ use Rattle.loading.proofs.load_volume.Statement.{statement}
 use Rattle.loading.proofs.load_volume.Tie as tie
 
 abbrev Inv-loop : tie.InvT-loop
-Inv-loop header g key volume maps₀ owners₀ p c start t₀ done₀ maps owners t done =
+Inv-loop header g key volume maps₀ owners₀ counts p c start t₀ done₀ maps owners t done =
     (done ≤ p)
     × (done < p → done ≡ t * c)
     × (length maps ≡ length maps₀)
     × (length owners ≡ length owners₀)
-    × (load p (λ (n : ℕ). storedEntry g key header (n % p)) p start maps₀ owners₀
-    ≡ load p (λ (n : ℕ). storedEntry g key header (n % p)) (p - done) (start + done) maps owners)
+    × (load p counts (λ (n : ℕ). storedEntry g key header (n % p)) p start maps₀ owners₀
+    ≡ load p counts (λ (n : ℕ). storedEntry g key header (n % p)) (p - done) (start + done) maps owners)
 
 abbrev μ-loop : tie.MeasureT-loop
-μ-loop header g key volume maps₀ owners₀ p c start t₀ done₀ maps owners t done = p - done
+μ-loop header g key volume maps₀ owners₀ counts p c start t₀ done₀ maps owners t done = p - done
 
 -- The table's rows are few, and each lies within it.
 rows-small : (g : Geometry) → Allowed g → (v : ℕ) → v ≤ 14 → v * g .p ≤ 14 * 4096
@@ -50,7 +50,7 @@ module _ (c : tie.In-loop Inv-loop μ-loop) where
   sized = c .before .before
 
   abbrev start : tie.Start Inv-loop μ-loop
-  start = sized .before .before .before .before .before
+  start = sized .before .before .before .before .before .before
 
   abbrev taken : c .before .loop .done < start .args .g .p
   taken = c .loop-test .taken
@@ -72,7 +72,7 @@ settled : (c : tie.After-load-block Inv-loop μ-loop)
     let l = counted .before .before .loop in
     let a = start (counted .before) .args in
     let f = from (a .g) (a .key .now) (a .header .now) in
-    Settled (load (a .g .p) f (counted .least .result) (a .volume * a .g .p + l .done) (l .maps) (l .owners))
+    Settled (load (a .g .p) (a .counts .now) f (counted .least .result) (a .volume * a .g .p + l .done) (l .maps) (l .owners))
     (answerNumber (c .load-block .result)) (c .load-block .last .1 .1 .1 .1 .0) (c .load-block .last .1 .1 .1 .1 .1 .0)
 settled c =
     let counted = c .before .before .before in
@@ -87,8 +87,8 @@ settled c =
     let n = a .volume * g .p + l .done in
     let block : ℕ → ℕ = λ i. numberAt (4 * (i - n)) (blockText g key header (l .t)) in
     settled-by
-    (ap (λ (p : ℕ). load p block count n (l .maps) (l .owners)) (l .inv .3 ∙ s .pre .3)
-    ∙ load-cong (g .p) block (from g key header) count n (l .maps) (l .owners)
+    (ap (λ (p : ℕ). load p (a .counts .now) block count n (l .maps) (l .owners)) (l .inv .3 ∙ s .pre .3)
+    ∙ load-cong (g .p) (a .counts .now) block (from g key header) count n (l .maps) (l .owners)
     (λ i u w.
     let k : i ≡ a .volume * g .p + (l .t * perBlock g + (i - n)) = omega (arith, aligned tested, u) in
     sym
@@ -105,8 +105,9 @@ next : (c : tie.After-load-block Inv-loop μ-loop)
     let f = from (a .g) (a .key .now) (a .header .now) in
     let n = a .volume * a .g .p + l .done in
     let count = counted .least .result in
-    load (a .g .p) f (a .g .p) (a .volume * a .g .p) (a .maps .now) (a .owners .now)
-    ≡ andThen (load (a .g .p) f count n (l .maps) (l .owners)) (load (a .g .p) f (a .g .p - (l .done + count)) (n + count))
+    load (a .g .p) (a .counts .now) f (a .g .p) (a .volume * a .g .p) (a .maps .now) (a .owners .now)
+    ≡ andThen (load (a .g .p) (a .counts .now) f count n (l .maps) (l .owners))
+    (load (a .g .p) (a .counts .now) f (a .g .p - (l .done + count)) (n + count))
 next c =
     let counted = c .before .before .before in
     let tested = counted .before in
@@ -117,23 +118,25 @@ next c =
     let count = counted .least .result in
     let k : a .g .p - l .done ≡ count + (a .g .p - (l .done + count)) = omega (arith, counted .least .ensures .0, taken tested) in
     l .inv .4
-    ∙ ap (λ (j : ℕ). load (a .g .p) f j n (l .maps) (l .owners)) k
-    ∙ load-run (a .g .p) f count (a .g .p - (l .done + count)) n (l .maps) (l .owners)
+    ∙ ap (λ (j : ℕ). load (a .g .p) (a .counts .now) f j n (l .maps) (l .owners)) k
+    ∙ load-run (a .g .p) (a .counts .now) f count (a .g .p - (l .done + count)) n (l .maps) (l .owners)
 
 -- ---- the needs
 
 mul-start : tie.Need-mul-start Inv-loop μ-loop
-mul-start c = let s = c .before .before .before .before .before in omega (arith, rows-small (s .args .g) (s .pre .0) (s .args .volume) (s .pre .4))
+mul-start c =
+    let s = c .before .before .before .before .before .before in
+    omega (arith, rows-small (s .args .g) (s .pre .0) (s .args .volume) (s .pre .5))
 
 loop-holds : tie.Need-loop-holds Inv-loop μ-loop
 loop-holds c =
-    let a = c .before .before .before .before .before .args in
+    let a = c .before .before .before .before .before .before .args in
     let z : a .g .p ≡ a .g .p - 0 = omega arith in (
       omega arith,
       λ l. omega arith,
       refl,
       refl,
-      ap₂ (λ (j k : ℕ). load (a .g .p) (from (a .g) (a .key .now) (a .header .now)) j k (a .maps .now) (a .owners .now)) z
+      ap₂ (λ (j k : ℕ). load (a .g .p) (a .counts .now) (from (a .g) (a .key .now) (a .header .now)) j k (a .maps .now) (a .owners .now)) z
           (sym (add-zero (a .volume * a .g .p))),
     )
 
@@ -141,7 +144,7 @@ add-load-block : tie.Need-add-load-block Inv-loop μ-loop
 add-load-block c =
     let tested = c .before .before .before in
     let s = start tested in
-    omega (arith, rows-small (s .args .g) (s .pre .0) (s .args .volume) (s .pre .4), taken tested, s .pre .0 .slices-most)
+    omega (arith, rows-small (s .args .g) (s .pre .0) (s .args .volume) (s .pre .5), taken tested, s .pre .0 .slices-most)
 
 load-block-requires : tie.Need-load-block-requires Inv-loop μ-loop
 load-block-requires c κs =
@@ -153,10 +156,11 @@ load-block-requires c κs =
       s .pre .1,
       omega (arith, l .inv .2, l .inv .3, s .pre .2, s .pre .3),
       omega (arith, l .inv .3, s .pre .3, s .pre .0 .slices-most),
-      omega (arith, row-fits (s .args .g) (s .args .volume) (s .pre .4), counted .least .ensures .0, taken tested, l .inv .2, s .pre .2),
+      s .pre .4,
+      omega (arith, row-fits (s .args .g) (s .args .volume) (s .pre .5), counted .least .ensures .0, taken tested, l .inv .2, s .pre .2),
       count-most counted,
       block-below tested,
-      s .pre .5,
+      s .pre .6,
     )
 
 returns : tie.Need-returns Inv-loop μ-loop
@@ -193,6 +197,7 @@ loop-again c =
     let a = start tested .args in
     let least = counted .least .ensures in
     let count = counted .least .result in
+    let f = from (a .g) (a .key .now) (a .header .now) in
     let left = turn .load-block .last .1 .1 .1 .1 in (
       omega (arith, least .0, taken tested),
       λ h. omega (arith, least .2 (omega (arith, h)), l .inv .1 (taken tested)),
@@ -200,7 +205,7 @@ loop-again c =
       turn .load-block .kept .1 .1 .1 .1 .1 .0 ∙ l .inv .3,
       next turn
           ∙ andThen-tables _ (settled-tables _ _ _ _ (settled turn) (answer-served (c .enum-told2 .given .1)))
-          ∙ ap (λ (k : ℕ). load (a .g .p) (from (a .g) (a .key .now) (a .header .now)) (a .g .p - (l .done + count)) k (left .0) (left .1 .0))
+          ∙ ap (λ (k : ℕ). load (a .g .p) (a .counts .now) f (a .g .p - (l .done + count)) k (left .0) (left .1 .0))
           (add-assoc (a .volume * a .g .p) (l .done) count),
     )
 
@@ -208,8 +213,8 @@ returns-2 : tie.Need-returns-2 Inv-loop μ-loop
 returns-2 c =
     let l = c .before .loop in
     let sizing = c .before .before in
-    let a = sizing .before .before .before .before .before .args in
-    tables-settled (l .inv .4 ∙ load-done _ _ (a .g .p - l .done) (a .volume * a .g .p + l .done) (l .maps) (l .owners) (omega arith))
+    let a = sizing .before .before .before .before .before .before .args in
+    tables-settled (l .inv .4 ∙ load-done _ _ _ (a .g .p - l .done) (a .volume * a .g .p + l .done) (l .maps) (l .owners) (omega arith))
 
 pub load-volume-spec : {M : Type 1} → statement M
 load-volume-spec =

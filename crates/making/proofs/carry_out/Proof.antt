@@ -9,6 +9,7 @@ use Rattle.refusals.proofs.Positive.{answer-positive}
 use Rattle.refusals.proofs.Refuse.{unlessRefused-refused}
 use Rattle.model.specs.Parts.{part, patched}
 use Rattle.model.specs.Geometry.{deviceLength}
+use Rattle.model.specs.Conditions.{Counted}
 use Rattle.model.specs.Format.{formatNeed, cellPatches, headerPatches, formatted}
 use Rattle.model.proofs.Parts.{patched-++}
 use Rattle.model.proofs.Bounds.{cell-fits}
@@ -19,13 +20,16 @@ use Rattle.making.proofs.carry_out.Tie as tie
 -- What is asked for where nothing was refused.
 module _ (c : tie.After-enum-told2) where
   abbrev start : tie.Start
-  start = c .before .before .before .before .before
+  start = c .before .before .before .before .before .before
 
   makes : let a = start .args in Makes (a .g) (a .n) (length (a .keys .now)) (length (a .drawn .now))
   makes = start .pre (ap answerNumber (c .enum-told2 .given .1)) .0
 
+  counted : let a = start .args in Counted (a .g .p) (a .n) (a .counts .now)
+  counted = start .pre (ap answerNumber (c .enum-told2 .given .1)) .1
+
   long : length (start .args .device .now) ≡ deviceLength (start .args .g)
-  long = start .pre (ap answerNumber (c .enum-told2 .given .1)) .1
+  long = start .pre (ap answerNumber (c .enum-told2 .given .1)) .2
 
 -- Where the device is filled, and where the cells are sealed.
 abbrev told : tie.After-copy → tie.After-enum-told2
@@ -52,7 +56,7 @@ seal-headers-requires c κs =
     let keyed = c .before .before .before in
     let full = filled keyed in
     let ok = makes (told full) in
-    (ok .allowed, ok .most, ok .long, keyed .seal-cells .kept .0 ∙ full .copy .kept .0 ∙ long (told full))
+    (ok .allowed, ok .most, counted (told full), ok .long, keyed .seal-cells .kept .0 ∙ full .copy .kept .0 ∙ long (told full))
 
 returns-2 : tie.Need-returns-2
 unfolding formatted unlessRefused
@@ -63,7 +67,7 @@ returns-2 c =
     let a = start (told full) .args in
     let served = told full .enum-told2 .given .1 in
     let cells = cellPatches (a .g) (a .n) (a .keys .now) (a .drawn .now) (a .n) in
-    let headers = headerPatches (a .g) (a .n) (a .drawn .now) (a .n) in (
+    let headers = headerPatches (a .g) (a .n) (a .counts .now) (a .drawn .now) (a .n) in (
       sym served,
       headed .seal-headers .ensures
           ∙ ap (patched headers)
@@ -71,7 +75,7 @@ returns-2 c =
           ∙ ap (patched cells)
           (full .copy .ensures ∙ full .before .before .bytes-at .ensures .0 ∙ ap (λ (n : ℕ). part 0 n (a .drawn .now)) (long (told full))))
           ∙ sym (patched-++ cells headers (part 0 (deviceLength (a .g)) (a .drawn .now)))
-          ∙ sym (ap (λ x. unlessRefused (answerNumber x) (formatted (a .g) (a .n) (a .keys .now) (a .drawn .now)) (a .device .now)) served),
+          ∙ sym (ap (λ x. unlessRefused (answerNumber x) (formatted (a .g) (a .n) (a .keys .now) (a .counts .now) (a .drawn .now)) (a .device .now)) served),
     )
 
 pub carry-out-spec : {M : Type 1} → statement M

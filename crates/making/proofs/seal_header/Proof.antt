@@ -15,7 +15,7 @@ use Rattle.making.proofs.seal_header.Statement.{statement}
 use Rattle.making.proofs.seal_header.Tie as tie
 
 abbrev start : tie.After-header-iv-at → tie.Start
-start c = c .before .before .before .before .before
+start c = c .before .before .before .before .before .before
 
 bytes-at-requires : tie.Need-bytes-at-requires
 bytes-at-requires c κs = omega (arith, c .header-iv-at .ensures, ivs-end (start c .pre .0))
@@ -28,7 +28,7 @@ store-sealed-requires c κs =
     let a = s .args in
     let d = s .pre .0 in
     let g = a .g in
-    let textl = ap length (drew .before .before .header-text .ensures) ∙ madeText-length g (a .n) (a .drawn .now) (d .long) (a .i) (d .below) in
+    let textl = ap length (drew .before .before .header-text .ensures) ∙ madeText-length g (a .n) (a .drawn .now) (d .long) (a .counts .now) (a .i) (d .below) in
     let low : a .i ≤ 14 = omega (arith, d .below, d .most) in (
       drew .before .vmk-in .ensures .1,
       placed .before .bytes-at .ensures .1,
@@ -37,7 +37,7 @@ store-sealed-requires c κs =
         arith,
         textl,
         placed .header-start .ensures,
-        s .pre .1,
+        s .pre .2,
         header-fits g (d .allowed) (a .i) low,
         b-bounds g (d .allowed),
         mul-le-mul-left {m = 1} {n = 1 + mapBlocks g} (g .b) (omega arith),

@@ -15,11 +15,11 @@ use Rattle.making.proofs.seal_headers.Statement.{statement}
 use Rattle.making.proofs.seal_headers.Tie as tie
 
 abbrev Inv-loop : tie.InvT-loop
-Inv-loop device₀ g n drawn i₀ device i =
-    (i ≤ n) × (device ≡ patched (headerPatches g n drawn i) device₀) × (length device ≡ length device₀)
+Inv-loop device₀ g n counts drawn i₀ device i =
+    (i ≤ n) × (device ≡ patched (headerPatches g n counts drawn i) device₀) × (length device ≡ length device₀)
 
 abbrev μ-loop : tie.MeasureT-loop
-μ-loop device₀ g n drawn i₀ device i = n - i
+μ-loop device₀ g n counts drawn i₀ device i = n - i
 
 -- A turn: the loop, and what was lent before it.
 module _ (c : tie.In-loop Inv-loop μ-loop) where
@@ -27,10 +27,10 @@ module _ (c : tie.In-loop Inv-loop μ-loop) where
   looped = c .before
 
   abbrev start : tie.Start Inv-loop μ-loop
-  start = looped .before .before .before
+  start = looped .before .before .before .before
 
   drawn : let a = start .args in Drawn (a .g) (a .n) (looped .loop .i) (length (a .drawn .now))
-  drawn = let p = start .pre in record { allowed = p .0; most = p .1; below = c .loop-test .taken; long = p .2 }
+  drawn = let p = start .pre in record { allowed = p .0; most = p .1; below = c .loop-test .taken; long = p .3 }
 
 -- The device after the header of a turn.
 module _ (c : tie.After-seal-header Inv-loop μ-loop) where
@@ -38,7 +38,7 @@ module _ (c : tie.After-seal-header Inv-loop μ-loop) where
   turn = c .before .before
 
   abbrev header : List ℕ
-  header = let a = start turn .args in madeHeader (a .g) (a .n) (a .drawn .now) (looped turn .loop .i)
+  header = let a = start turn .args in madeHeader (a .g) (a .n) (a .counts .now) (a .drawn .now) (looped turn .loop .i)
 
   header-long : length (c .seal-header .last .0) ≡ length (start turn .args .device .now)
   header-long =
@@ -47,16 +47,16 @@ module _ (c : tie.After-seal-header Inv-loop μ-loop) where
 
 loop-holds : tie.Need-loop-holds Inv-loop μ-loop
 loop-holds c =
-    let a = c .before .before .args in
-    (search needs, headerPatches-none (a .g) (a .n) (a .drawn .now) (a .device .now), refl)
+    let a = c .before .before .before .args in
+    (search needs, headerPatches-none (a .g) (a .n) (a .drawn .now) (a .device .now) (a .counts .now), refl)
 
 seal-header-requires : tie.Need-seal-header-requires Inv-loop μ-loop
-seal-header-requires c κs = let t = c .before in (drawn t, looped t .loop .inv .2 ∙ start t .pre .3)
+seal-header-requires c κs = let t = c .before in (drawn t, start t .pre .2, looped t .loop .inv .2 ∙ start t .pre .4)
 
 store-map-requires : tie.Need-store-map-requires Inv-loop μ-loop
 store-map-requires c κs =
     let sealed = c .before .before .before in
-    (drawn (turn sealed), header-long sealed ∙ start (turn sealed) .pre .3)
+    (drawn (turn sealed), header-long sealed ∙ start (turn sealed) .pre .4)
 
 loop-again : tie.Need-loop-again Inv-loop μ-loop
 loop-again c =
@@ -71,16 +71,16 @@ loop-again c =
       e
           ∙ ap (λ (d : List ℕ). overlay d (mapStart (a .g) (l .i)) maps)
           (sealed .seal-header .ensures ∙ ap (λ (d : List ℕ). overlay d (headerStart (a .g) (l .i)) (header sealed)) (l .inv .1))
-          ∙ headerPatches-turn (a .g) (a .n) (a .drawn .now) (a .device .now) (l .i),
+          ∙ headerPatches-turn (a .g) (a .n) (a .drawn .now) (a .device .now) (a .counts .now) (l .i),
       ap length e ∙ overlay-length (sealed .seal-header .last .0) (mapStart (a .g) (l .i)) maps ∙ header-long sealed,
     )
 
 returns : tie.Need-returns Inv-loop μ-loop
 returns c =
     let l = c .before .loop in
-    let a = c .before .before .before .before .args in
+    let a = c .before .before .before .before .before .args in
     let all : l .i ≡ a .n = omega arith in
-    l .inv .1 ∙ ap (λ (i : ℕ). patched (headerPatches (a .g) (a .n) (a .drawn .now) i) (a .device .now)) all
+    l .inv .1 ∙ ap (λ (i : ℕ). patched (headerPatches (a .g) (a .n) (a .counts .now) (a .drawn .now) i) (a .device .now)) all
 
 pub seal-headers-spec : {M : Type 1} → statement M
 seal-headers-spec =

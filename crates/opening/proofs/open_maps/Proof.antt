@@ -24,25 +24,25 @@ owners-length : (s : tie.Start) → length (s .args .owners .now) ≡ s .args .g
 owners-length s = ap length (s .pre .4) ∙ length-replicate {A = ℕ} (s .args .g .p) 0
 
 abbrev start : tie.After-load-maps-arg2 → tie.Start
-start c = c .before .before .before .before .before .before .before
+start c = c .before .before .before .before .before .before .before .before
 
 -- What was loaded.
 settled : (c : tie.After-load-maps)
     → let a = start (c .before) .args in
-    Settled (loadMaps (a .g) (headerOf (a .g) (a .device .now)) (a .t4) (a .k))
-    (answerNumber (c .load-maps .result)) (c .load-maps .last .1 .1 .1 .1 .0) (c .load-maps .last .1 .1 .1 .1 .1 .0)
+    Settled (loadMaps (a .g) (headerOf (a .g) (a .device .now)) (a .t4) (a .t5) (a .k))
+    (answerNumber (c .load-maps .result)) (c .load-maps .last .1 .1 .1 .1 .1 .0) (c .load-maps .last .1 .1 .1 .1 .1 .1 .0)
 settled c =
     let s = start (c .before) in
     let a = s .args in
     settled-by
-    (ap₂ (λ (m o : List ℕ). load (a .g .p) (mapEntries (a .g) (headerOf (a .g) (a .device .now)) (a .t4)) ((a .k + 1) * a .g .p) 0 m o)
+    (ap₂ (λ (m o : List ℕ). load (a .g .p) (a .t5) (mapEntries (a .g) (headerOf (a .g) (a .device .now)) (a .t4)) ((a .k + 1) * a .g .p) 0 m o)
     (s .pre .3) (s .pre .4))
     _ _ _ (c .load-maps .ensures)
 
 load-maps-requires : tie.Need-load-maps-requires
 load-maps-requires c κs =
     let s = start c in
-    (s .pre .0, s .pre .1, maps-length s, owners-length s, s .pre .2, search needs)
+    (s .pre .0, s .pre .1, maps-length s, owners-length s, s .pre .2, search needs, search needs)
 
 returns : tie.Need-returns
 returns c =
@@ -54,10 +54,10 @@ returns c =
     let a = s .args in
     let bad = refusing .bad .given .1 in
     leaves-refused (noMaps (a .g)) (noOwners (a .g)) (answerNumber (loaded .load-maps .result))
-    (withTables-spoilt (a .g) (a .perm .now) (a .k) (a .t4) (settled-spoilt _ _ _ _ (settled loaded) (answer-refused bad)))
+    (withTables-spoilt (a .g) (a .perm .now) (a .k) (a .t4) (a .t5) (settled-spoilt _ _ _ _ (settled loaded) (answer-refused bad)))
     (ap openResult (c .refused .ensures .0) ∙ sym (ap (λ x. NotOpened (answerNumber x)) bad))
-    (unmapping .unmap .ensures ∙ ap (λ (n : ℕ). replicate n unmapped) (loaded .load-maps .kept .1 .1 .1 .1 .0 ∙ maps-length s))
-    (clearing .clear .ensures ∙ ap (λ (n : ℕ). replicate n 0) (loaded .load-maps .kept .1 .1 .1 .1 .1 .0 ∙ owners-length s))
+    (unmapping .unmap .ensures ∙ ap (λ (n : ℕ). replicate n unmapped) (loaded .load-maps .kept .1 .1 .1 .1 .1 .0 ∙ maps-length s))
+    (clearing .clear .ensures ∙ ap (λ (n : ℕ). replicate n 0) (loaded .load-maps .kept .1 .1 .1 .1 .1 .1 .0 ∙ owners-length s))
     (c .refused .ensures .1)
 
 returns-2 : tie.Need-returns-2
@@ -66,14 +66,15 @@ returns-2 c =
     let loaded = told .before .before .before .before .before .before in
     let s = start (loaded .before) in
     let a = s .args in
-    leaves-opened (a .g) (a .perm .now) (a .k) (a .t4)
+    leaves-opened (a .g) (a .perm .now) (a .k) (a .t4) (a .t5)
     (settled-tables _ _ _ _ (settled loaded) (answer-served (told .enum-told .given .1)))
-    (loaded .load-maps .kept .1 .1 .1 .1 .1 .0 ∙ owners-length s) _ (c .start-place .ensures)
+    (loaded .load-maps .kept .1 .1 .1 .1 .1 .1 .0 ∙ owners-length s) _ (c .start-place .ensures)
 
 pub open-maps-spec : {M : Type 1} → statement M
 open-maps-spec =
     tie.close
     (tie.spec
+    (λ c. search needs)
     (λ c. search needs)
     load-maps-requires
     (λ c. search needs)

@@ -39,7 +39,7 @@ module _ (c : tie.After-found) where
       le-of-suc-le-suc (found-below (a .key .now) (cellOf (a .device .now)) (f .result) (f .last .1 .1 .1 .0) 15 (f .ensures) (c .found .given .1))
 
 abbrev found : tie.After-open-chain → tie.After-found
-found c = c .before .before .before .before .before
+found c = c .before .before .before .before .before .before .before
 
 -- ---- the needs
 
@@ -50,26 +50,27 @@ first-cell-requires c κs =
 
 open-chain-requires : tie.Need-open-chain-requires
 open-chain-requires c κs =
-    let empty = c .before .before in
+    let zeros = c .before .before .before in
+    let empty = zeros .before in
     let finding = empty .before .before in
     let cell = tried finding in
     let s = start cell in
-    (s .pre .0, s .pre .1, volume-most finding, cell .first-cell .kept .1 .1 .1 .0, empty .no-keys .ensures)
+    (s .pre .0, s .pre .1, volume-most finding, cell .first-cell .kept .1 .1 .1 .0, empty .no-keys .ensures, zeros .no-counts .ensures)
 
 returns : tie.Need-returns
 returns c =
     let refusing = c .before .before in
-    let chained = refusing .before .before .before .before in
+    let chained = refusing .before .before .before .before .before in
     let finding = found chained in
     let cell = tried finding in
     let s = start cell in
     let a = s .args in
-    let keys = chained .open-chain in
-    let number = answerNumber (keys .result) in
+    let chain = chained .open-chain in
+    let number = answerNumber (chain .result) in
     let bad = refusing .bad .given .1 in
     leaves-refused (noMaps (a .g)) (noOwners (a .g)) number
     (withCell-broken (a .g) (a .perm .now) (headerOf (a .g) (a .device .now)) (finding .found .given .0 .0) (cell .first-cell .last .1 .1 .1 .0)
-    (at finding) number (keys .last .1 .1 .1 .1 .0) (keys .ensures) (answer-refused bad))
+    (at finding) number (chain .last .1 .1 .1 .1 .0) (chain .last .1 .1 .1 .1 .1 .0) (chain .ensures) (answer-refused bad))
     (ap openResult (c .refused2 .ensures .0) ∙ sym (ap (λ x. NotOpened (answerNumber x)) bad))
     (s .pre .3)
     (s .pre .4)
@@ -77,7 +78,7 @@ returns c =
 
 open-maps-requires : tie.Need-open-maps-requires
 open-maps-requires c κs =
-    let chained = c .before .before .before .before .before .before in
+    let chained = c .before .before .before .before .before .before .before in
     let s = start (tried (found chained)) in
     (s .pre .0, s .pre .1, volume-most (found chained), s .pre .3, s .pre .4)
 
@@ -96,16 +97,16 @@ returns-3 : tie.Need-returns-3
 returns-3 c =
     let loading = c .before .before .before .before in
     let told = loading .before .before .before in
-    let chained = told .before .before .before .before in
+    let chained = told .before .before .before .before .before in
     let finding = found chained in
     let cell = tried finding in
     let a = start cell .args in
-    let keys = chained .open-chain in
-    let number = answerNumber (keys .result) in
+    let chain = chained .open-chain in
+    let number = answerNumber (chain .result) in
     leaves-by
     (sym
     (withCell-served (a .g) (a .perm .now) (headerOf (a .g) (a .device .now)) (finding .found .given .0 .0) (cell .first-cell .last .1 .1 .1 .0)
-    (at finding) number (keys .last .1 .1 .1 .1 .0) (keys .ensures) (answer-served (told .enum-told2 .given .1))))
+    (at finding) number (chain .last .1 .1 .1 .1 .0) (chain .last .1 .1 .1 .1 .1 .0) (chain .ensures) (answer-served (told .enum-told2 .given .1))))
     _ _ _ _ (loading .open-maps .ensures)
 
 pub open-volumes-spec : {M : Type 1} → statement M
@@ -118,6 +119,8 @@ open-volumes-spec =
     (λ c κs. search needs)
     (λ c. search needs)
     (λ c κs. search needs)
+    (λ c κs. search needs)
+    (λ c. search needs)
     (λ c. search needs)
     (λ c. search needs)
     open-chain-requires

@@ -21,7 +21,7 @@ returns c =
     e ∙ sym (standing-first _ _ _ _ (rw e at (answer-positive (c .enum-told .given .1))) _)
 
 check-asked-requires : tie.Need-check-asked-requires
-check-asked-requires c κs = let s = stands c in (s .usable .allowed, s .usable .top, s .tables .0)
+check-asked-requires c κs = let s = stands c in (s .usable, s .tables .0)
 
 returns-2 : tie.Need-returns-2
 unfolding readRefusal

@@ -4,6 +4,7 @@ use mathlib.Core.Path.{_≡_, sym, ap, _∙_}
 use mathlib.Core.Bool.{true, not}
 use native.Mathlib.Omega.{arith}
 use lib.Dec.{eqb}
+use lib.ListN.{length}
 use borrow.Author.Needs.{needs}
 use borrow.Author.Tests.{lt-ltb, le-ltb, eq-eqb, ne-eqb}
 use Rattle.refusals.specs.Numbers.{refuse, answerNumber}
@@ -54,8 +55,40 @@ returns-4 c =
       lt-ltb _ _ (c .if3 .taken),
     )
 
+-- A session has 15 counts, and volumes 0 to k are at most 15.
+counts-long : (c : tie.Start) → length (c .args .session .counts) ≡ 15
+counts-long c = search needs
+
+slice-aggregate-any-bad-count : tie.Need-slice-aggregate-any-bad-count
+slice-aggregate-any-bad-count c = sym (counts-long (start (c .before .before .before .before .before .before .before)))
+
+any-bad-count-requires : tie.Need-any-bad-count-requires
+any-bad-count-requires c κs =
+    let placed = c .before .before .before in
+    omega (arith, counts-long (start (placed .before .before .before .before .before)), placed .before .before .before .if2 .left)
+
+-- Where the counts are read, and where the geometry was told.
+abbrev counts-read : tie.After-any-bad-count → tie.Else3
+counts-read c = c .before .before .before .before
+
+abbrev toldOf : tie.Else4 → tie.After-enum-told2
+toldOf c = counts-read (c .before) .before .before .before .before .before
+
+returns-5 : tie.Need-returns-5
+unfolding standing refuse
+returns-5 c =
+    let placed = counts-read (c .before) in
+    let told = placed .before .before .before .before .before in
+    simp (
+      told .before .before .before .before .if1 .left,
+      geometry-passed told,
+      le-ltb _ _ (placed .before .before .before .if2 .left),
+      le-ltb _ _ (placed .if3 .left),
+      sym (c .before .any-bad-count .ensures) ∙ c .if4 .taken,
+    )
+
 -- Past the session: the lengths speak.
-session-passed : (c : tie.Else3) → let a = start (c .before .before .before .before .before) .args in
+session-passed : (c : tie.Else4) → let a = start (toldOf c) .args in
     standing (a .device) (a .maps) (a .owners) (a .session) 0
     ≡ refuse (not (eqb (a .device) (deviceLength (a .session .geometry)))) 2
     (refuse (not (eqb (a .maps) (15 * a .session .geometry .p))) 4
@@ -63,43 +96,43 @@ session-passed : (c : tie.Else3) → let a = start (c .before .before .before .b
     0))
 unfolding standing refuse
 session-passed c =
-    let told = c .before .before .before .before .before in
+    let placed = counts-read (c .before) in
     simp (
-      told .before .before .before .before .if1 .left,
-      geometry-passed told,
-      le-ltb _ _ (c .before .before .before .if2 .left),
-      le-ltb _ _ (c .if3 .left),
+      toldOf c .before .before .before .before .if1 .left,
+      geometry-passed (toldOf c),
+      le-ltb _ _ (placed .before .before .before .if2 .left),
+      le-ltb _ _ (placed .if3 .left),
+      sym (c .before .any-bad-count .ensures) ∙ c .if4 .left,
     )
-
-returns-5 : tie.Need-returns-5
-unfolding refuse
-returns-5 c =
-    simp (session-passed (c .before .before), ne-eqb _ _ (λ e. c .if4 .taken (e ∙ sym (c .before .device-length .ensures))))
-
--- The device has its length.
-long : (c : tie.Else4) → let a = start (c .before .before .before .before .before .before .before) .args in
-    eqb (a .device) (deviceLength (a .session .geometry)) ≡ true
-long c = eq-eqb _ _ (c .if4 .left ∙ c .before .device-length .ensures)
 
 returns-6 : tie.Need-returns-6
 unfolding refuse
-returns-6 c = simp (session-passed (c .before .before .before .before), long (c .before .before), ne-eqb _ _ (c .if5 .taken))
+returns-6 c =
+    simp (session-passed (c .before .before), ne-eqb _ _ (λ e. c .if5 .taken (e ∙ sym (c .before .device-length .ensures))))
+
+-- The device has its length.
+long : (c : tie.Else5) → let a = start (toldOf (c .before .before)) .args in eqb (a .device) (deviceLength (a .session .geometry)) ≡ true
+long c = eq-eqb _ _ (c .if5 .left ∙ c .before .device-length .ensures)
 
 returns-7 : tie.Need-returns-7
 unfolding refuse
-returns-7 c =
-    let passed = c .before .before .before .before in
-    simp (session-passed (passed .before .before), long passed, eq-eqb _ _ (c .before .before .if5 .left), ne-eqb _ _ (c .if6 .taken))
+returns-7 c = simp (session-passed (c .before .before .before .before), long (c .before .before), ne-eqb _ _ (c .if6 .taken))
 
 returns-8 : tie.Need-returns-8
 unfolding refuse
 returns-8 c =
     let passed = c .before .before .before .before in
-    simp (session-passed (passed .before .before), long passed, eq-eqb _ _ (c .before .before .if5 .left), eq-eqb _ _ (c .if6 .left))
+    simp (session-passed (passed .before .before), long passed, eq-eqb _ _ (c .before .before .if6 .left), ne-eqb _ _ (c .if7 .taken))
+
+returns-9 : tie.Need-returns-9
+unfolding refuse
+returns-9 c =
+    let passed = c .before .before .before .before in
+    simp (session-passed (passed .before .before), long passed, eq-eqb _ _ (c .before .before .if6 .left), eq-eqb _ _ (c .if7 .left))
 
 pub check-standing-spec : {M : Type 1} → statement M
 check-standing-spec =
     tie.close
     (tie.spec returns (λ c κs. search needs) (λ c. search needs) returns-2 (λ c. search needs) returns-3 returns-4
-    (λ c κs. allowed (c .before .before .before .before .before)) returns-5
-    (λ c. omega (arith, allowed (c .before .before .before .before .before .before .before .before) .slices-most)) returns-6 returns-7 returns-8)
+    slice-aggregate-any-bad-count (λ c. search needs) any-bad-count-requires returns-5 (λ c κs. allowed (toldOf c)) returns-6
+    (λ c. omega (arith, allowed (toldOf (c .before .before .before)) .slices-most)) returns-7 returns-8 returns-9)

@@ -1,55 +1,60 @@
 -- `tables::any_bad` meets its contract. None of the i entries passed is bad. Assumes nothing.
-use mathlib.Core.Path.{_≡_, refl, sym, _∙_}
-use mathlib.Core.Bool.{true, false}
+use mathlib.Core.Path.{_≡_, refl, sym, ap, _∙_}
+use mathlib.Core.Bool.{true, false, not}
 use mathlib.Core.Logic.{⊎-elim}
 use Prim.Native.Nat.{_-_, _≤_}
 use native.Mathlib.Omega.{arith}
 use borrow.Author.Needs.{needs}
-use borrow.Author.Tests.{lt-ltb, le-ltb, ne-eqb}
+use borrow.Author.Tests.{ne-eqb}
 use lib.ListN.{getD}
-use Rattle.model.specs.Session.{badEntry, unmapped}
-use Rattle.tables.specs.Flagged.{anyBelow}
-use Rattle.tables.proofs.Below.{anyBelow-turn, anyBelow-found, anyBelow-anyBad}
+use Rattle.model.specs.Parts.{anyBelow}
+use Rattle.model.specs.Session.{badEntryAt, unmapped}
+use Rattle.model.specs.Close.{anyBad}
+use Rattle.model.proofs.Below.{anyBelow-turn, anyBelow-found}
 use Rattle.tables.proofs.any_bad.Statement.{statement}
 use Rattle.tables.proofs.any_bad.Tie as tie
 
 abbrev Inv-loop : tie.InvT-loop
-Inv-loop maps p n i₀ i = (i ≤ n) × (anyBelow (λ j. badEntry p (getD maps j 0)) i ≡ false)
+Inv-loop maps counts p n i₀ i = (i ≤ n) × (anyBad p counts maps i ≡ false)
 
 abbrev μ-loop : tie.MeasureT-loop
-μ-loop maps p n i₀ i = n - i
+μ-loop maps counts p n i₀ i = n - i
 
 loop-holds : tie.Need-loop-holds Inv-loop μ-loop
-unfolding anyBelow
+unfolding anyBad anyBelow
 loop-holds c = (search needs, refl)
 
 cast-entry : tie.Need-cast-entry Inv-loop μ-loop
-cast-entry c = omega (arith, c .shared-slice-known .given (c .before .before .loop .i))
+cast-entry c = omega (arith, c .shared-slice-known3 .given (c .before .before .loop .i))
 
 returns : tie.Need-returns Inv-loop μ-loop
+unfolding anyBad
 returns c =
-    let tested = c .before .before .before in
+    let held = c .before in
+    let tested = held .before .before .before in
     let i = tested .before .loop .i in
-    let a = tested .before .before .args in
+    let a = tested .before .before .before .before .args in
     let x = getD (a .maps .now) i 0 in
-    let bad : badEntry (a .p) x ≡ true = rw (ne-eqb x unmapped (c .before .if1 .taken), le-ltb x (a .p) (c .if2 .taken)) refl in
-    sym (anyBelow-found _ (a .n) i (tested .loop-test .taken) bad) ∙ anyBelow-anyBad (a .p) (a .maps .now) (a .n)
+    let bad : badEntryAt (a .p) (a .counts .now) i x ≡ true =
+    rw (ne-eqb x unmapped (held .before .if1 .taken), sym (held .is-placed .ensures), c .if2 .taken) refl in
+    sym (anyBelow-found _ (a .n) i (tested .loop-test .taken) bad)
 
 loop-again : tie.Need-loop-again Inv-loop μ-loop
+unfolding anyBad
 loop-again c =
     let l = c .before .before .before .loop in
-    let a = c .before .before .before .before .args in
+    let a = c .before .before .before .before .before .before .args in
     let x = getD (a .maps .now) (l .i) 0 in (
       search needs,
       anyBelow-turn _ (l .i) (l .inv .1)
-          (⊎-elim (λ w. rw (ne-eqb x unmapped (w .0 .taken), lt-ltb x (a .p) (w .1 .left)) refl) (λ w. rw (w .left) refl) (c .if1 .came)),
+          (⊎-elim (λ w. rw (ne-eqb x unmapped (w .0 .taken), sym (w .1 .ensures), w .2 .left) refl) (λ w. rw (w .left) refl) (c .if1 .came)),
     )
 
 returns-2 : tie.Need-returns-2 Inv-loop μ-loop
 returns-2 c =
-    let a = c .before .before .args in
-    let e : c .before .loop .i ≡ a .n = omega arith in
-    sym (c .before .loop .inv .1) ∙ anyBelow-anyBad (a .p) (a .maps .now) (c .before .loop .i) ∙ rw e refl
+    let a = c .before .before .before .before .args in
+    let e : a .n ≡ c .before .loop .i = omega arith in
+    sym (ap (anyBad (a .p) (a .counts .now) (a .maps .now)) e ∙ c .before .loop .inv .1)
 
 pub any-bad-spec : {M : Type 1} → statement M
 any-bad-spec =
@@ -61,6 +66,7 @@ any-bad-spec =
     (λ c. search needs)
     (λ c. search needs)
     cast-entry
+    (λ c κs. search needs)
     returns
     (λ c. search needs)
     (λ c. search needs)

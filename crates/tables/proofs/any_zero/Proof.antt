@@ -5,8 +5,9 @@ use Prim.Native.Nat.{_-_, _≤_}
 use native.Mathlib.Omega.{arith}
 use borrow.Author.Needs.{needs}
 use borrow.Author.Tests.{eq-eqb, ne-eqb}
-use Rattle.tables.specs.Flagged.{anyBelow, anyZero}
-use Rattle.tables.proofs.Below.{anyBelow-turn, anyBelow-found}
+use Rattle.model.specs.Parts.{anyBelow}
+use Rattle.model.proofs.Below.{anyBelow-turn, anyBelow-found}
+use Rattle.tables.specs.Flagged.{anyZero}
 use Rattle.tables.proofs.any_zero.Statement.{statement}
 use Rattle.tables.proofs.any_zero.Tie as tie
 
