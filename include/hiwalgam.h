@@ -15,7 +15,8 @@
  * - Each pointer but that to the tape position is followed by a length: of a list the number of its elements
  *   (not of its bytes), of a struct its sizeof. The pointer is valid for that length, and what is not const
  *   may be written. What a call sets needs no value before it.
- * - uint32_t and size_t are aligned as the ABI says. Of bytes and structs no alignment is asked.
+ * - Lists of uint32_t and uint64_t, and the tape position, are aligned as the ABI says. Of bytes and structs no
+ *   alignment is asked.
  * - NULL may be passed with length 0, which is then judged as any other length. The tape position is never NULL.
  * - The buffers of one call do not overlap, but for those that are const.
  * - One session at a time: from an opening to its close nothing but these calls alters device, tables, tape
@@ -39,18 +40,18 @@ extern "C" {
 /* What a call answers. */
 enum hiwalgam_answer {
     HIWALGAM_SERVED = 0,
-    HIWALGAM_BAD_GEOMETRY = 1,    /* B, S or P is not allowed */
+    HIWALGAM_BAD_GEOMETRY = 1,    /* B, S or P is not allowed; at formatting also a count, or their number */
     HIWALGAM_DEVICE_LENGTH = 2,   /* the device is not as long as its geometry says */
     HIWALGAM_KEY_LENGTH = 3,      /* the key is not 32 bytes, or the keys not 32 bytes each */
     HIWALGAM_TABLE_LENGTH = 4,    /* the map table has not 15 x P entries, or the owner table not P */
     HIWALGAM_BAD_PERMUTATION = 5, /* the permutation does not name each slice once */
     HIWALGAM_NO_CELL = 6,         /* the key opens no key cell */
     HIWALGAM_HEADER_TAG = 7,      /* the tag of a header that is needed is wrong */
-    HIWALGAM_HEADER_GEOMETRY = 8, /* a header was made for another geometry */
-    HIWALGAM_BAD_ENTRY = 9,       /* a map entry is neither a slice nor HIWALGAM_UNMAPPED */
+    HIWALGAM_HEADER_GEOMETRY = 8, /* a header's N is not 1 to P, or its S is not the geometry's */
+    HIWALGAM_BAD_ENTRY = 9,       /* a map entry that is no slice, or is at or past N, is not HIWALGAM_UNMAPPED */
     HIWALGAM_SLICE_TWICE = 10,    /* a slice is mapped twice */
     HIWALGAM_VOLUME_ABOVE = 11,   /* the volume is above the opened one */
-    HIWALGAM_ADDRESS_ABOVE = 12,  /* the block is past the end of the volume */
+    HIWALGAM_ADDRESS_ABOVE = 12,  /* the block is past the end of the volume: at or above N x S */
     HIWALGAM_WRONG_LENGTH = 13,   /* a buffer, text, IV, tag, associated data or struct has a wrong length */
     HIWALGAM_MALFORMED_LINE = 14, /* of the program slicewalk; no function answers it */
     HIWALGAM_TAG_DIFFERS = 15,    /* the tag is wrong */
@@ -81,7 +82,8 @@ enum hiwalgam_answer {
  * How a device is divided: P slices, which volumes take as they need them, of S data blocks of B bytes.
  *
  * Each volume has m map blocks: P / 252 for B 1024 and P / 1020 for B 4096, rounded up. The device has
- * B x (1 + 15 x (1 + m) + P x (S + 1)) bytes. A volume has P x S blocks, addressed from 0.
+ * B x (1 + 15 x (1 + m) + P x (S + 1)) bytes. A volume has N x S blocks, addressed from 0: N, 1 to P, is its own
+ * count of logical slices, which hiwalgam_format sets and its header keeps.
  */
 typedef struct hiwalgam_geometry {
     uint64_t block_bytes;  /* B: 1024 or 4096 */
@@ -91,7 +93,12 @@ typedef struct hiwalgam_geometry {
 
 /*
  * A session. hiwalgam_open makes it, hiwalgam_close ends it, and the caller hands it from call to call as
- * it is. It holds the keys of the open volumes.
+ * it is. It holds the keys of the open volumes, and how long each is: counts[v] x S blocks for volume v.
+ * A caller that raises a count can make a device that is refused by 9 at its next opening.
+ *
+ * A read, a write and a close refuse by 20 a session that is closed, or whose geometry is not allowed, whose
+ * volume is above 14, whose start place is above P, or of whose counts 0 to k one is not 1 to P. Counts and keys
+ * above k are not looked at.
  */
 typedef struct hiwalgam_session {
     hiwalgam_geometry geometry;
@@ -99,6 +106,7 @@ typedef struct hiwalgam_session {
     uint64_t open;        /* 1 for open, anything else for closed */
     uint64_t start_place; /* the place of the permutation where a claim begins to look, 0 to P */
     uint8_t keys[HIWALGAM_VOLUMES * HIWALGAM_KEY_BYTES];
+    uint64_t counts[HIWALGAM_VOLUMES]; /* N, the logical slices of volumes 0 to k, 0 above */
 } hiwalgam_session;
 
 /* What a write did. */
@@ -110,7 +118,7 @@ typedef struct hiwalgam_written {
 
 /* The bytes of the structs, the same in every translation unit. */
 #define HIWALGAM_GEOMETRY_BYTES 24
-#define HIWALGAM_SESSION_BYTES 528
+#define HIWALGAM_SESSION_BYTES 648
 #define HIWALGAM_WRITTEN_BYTES 24
 
 #if defined(__cplusplus) && __cplusplus >= 201103L
@@ -147,34 +155,44 @@ _Static_assert(sizeof(size_t) == 8, "a platform of 64 bits");
 #endif
 
 /*
- * Formats a device, whatever it held: a volume for each of count keys, 1 to 15, which stand end to end in
- * keys, 32 bytes each. Key i then opens the volumes 0 to i, and every block of them is zeros.
+ * Formats a device, whatever it held, with 1 to 15 volumes. keys has a key for each, 32 bytes, end to end;
+ * counts has for each its N, the number of its logical slices, 1 to P. Volume i then has counts[i] x S blocks.
+ * Key i opens the volumes 0 to i, and every block of them is zeros.
+ *
+ * A count sets no slice aside: the volumes take the P slices of the device as blocks are written, whatever
+ * their counts add up to. A volume keeps its count until the device is formatted again.
  *
  * Fills the whole device from the tape, then draws a master key and a data key for each volume, and the IVs of
- * what it seals: device_length + count x (88 + 16 x m) bytes of the tape in all. *position is the next unused
+ * what it seals: device_length + volumes x (88 + 16 x m) bytes of the tape in all. *position is the next unused
  * byte of the tape, and is moved on. The tape then holds the keys of the volumes: it is to be wiped.
  *
- * Refused by 13 (geometry of another size), 1, 2, 23, 3, 21, 24. The 24 comes where a key is given twice; with
- * keys that differ and a random tape it is as unlikely as a forged tag.
+ * Refused by 13 (geometry of another size), 1 (also for a count that is not 1 to P, or where counts_length is
+ * not volumes), 2, 23, 3, 21, 24. The 24 comes where a key is given twice; with keys that differ and a random
+ * tape it is as unlikely as a forged tag.
  */
 uint8_t hiwalgam_format(uint8_t *device, size_t device_length,
                         const hiwalgam_geometry *geometry, size_t geometry_size,
-                        size_t count, const uint8_t *keys, size_t keys_length,
+                        size_t volumes, const uint8_t *keys, size_t keys_length,
+                        const uint64_t *counts, size_t counts_length,
                         const uint8_t *tape, size_t tape_length, size_t *position)
-    HIWALGAM_ANSWERS HIWALGAM_OUT(1, 2) HIWALGAM_IN(6, 7) HIWALGAM_IN(8, 9) HIWALGAM_NOT_NULL(10);
+    HIWALGAM_ANSWERS HIWALGAM_OUT(1, 2) HIWALGAM_IN(6, 7) HIWALGAM_IN(8, 9) HIWALGAM_IN(10, 11)
+    HIWALGAM_NOT_NULL(12);
 
 /*
  * Opens a device with a key: the lowest volume whose key cell the key opens, and all below it.
  *
  * Sets maps, which has 15 x P entries, and owners, which has P. Entry l of volume v stands at maps[v * P + l]:
- * the slice, or HIWALGAM_UNMAPPED. owners[s] is 0 where slice s is free, and v + 1 where volume v holds it.
+ * the slice, or HIWALGAM_UNMAPPED, as every entry from the volume's N on is. owners[s] is 0 where slice s is
+ * free, and v + 1 where volume v holds it. The session's counts are the N of the open volumes' headers.
+ *
  * permutation names each of the slices 0 to P - 1 once, in the order in which claims look for a free one; it is
  * drawn at random for a session, handed to each of its writes, and nothing has to keep it afterwards. The
  * session's start place is its first place whose slice is free, or P.
  *
  * Refused by 13 (geometry or session of another size: all stays); by 1, 2, 3, 4 or 5, which leave the tables
- * as they were; by 6, 7, 8, 9 or 10, which set every entry to HIWALGAM_UNMAPPED and every owner to 0. Refused
- * by 1 to 10 it sets the session to zeros, which is closed.
+ * as they were; by 6, 7, 8, 9 or 10, which set every entry to HIWALGAM_UNMAPPED and every owner to 0. A volume's
+ * entries from its N to P - 1 are judged too: 9 where one is not HIWALGAM_UNMAPPED. Refused by 1 to 10 it sets the
+ * session to zeros, which is closed.
  */
 uint8_t hiwalgam_open(const uint8_t *device, size_t device_length,
                       const hiwalgam_geometry *geometry, size_t geometry_size,
@@ -186,8 +204,8 @@ uint8_t hiwalgam_open(const uint8_t *device, size_t device_length,
     HIWALGAM_ANSWERS HIWALGAM_IN(1, 2) HIWALGAM_IN(5, 6) HIWALGAM_OUT(7, 8) HIWALGAM_OUT(9, 10) HIWALGAM_IN(11, 12);
 
 /*
- * Reads a block of an open volume into buffer, which has B bytes. address counts the volume's blocks. A block
- * that was never written is zeros.
+ * Reads a block of an open volume into buffer, which has B bytes. address counts the volume's blocks, from 0 to
+ * N x S - 1. A block that was never written is zeros.
  *
  * Refused by 13 (session of another size), 20, 2, 4, 11, 12, 13 (buffer), 9.
  */
@@ -243,10 +261,10 @@ uint8_t hiwalgam_write(uint8_t *device, size_t device_length,
 /*
  * Closes a session: the maps of the open volumes go to the device, with 16 bytes of the tape for each map
  * block, 16 x m x (k + 1) in all; then every entry is HIWALGAM_UNMAPPED, every owner 0, and the session
- * closed, its keys zeros; its geometry, volume and start place stay. The device is then to be stored.
+ * closed, its keys zeros; its geometry, volume, start place and counts stay. The device is then to be stored.
  *
- * Refused by 13 (session of another size), 20, 2, 4, 9, 21. The session is still open after a 21, and can be
- * closed with more tape.
+ * Refused by 13 (session of another size), 20, 2, 4, 9 (any entry of the open volumes, those from N to P - 1
+ * included), 21. The session is still open after a 21, and can be closed with more tape.
  */
 uint8_t hiwalgam_close(uint8_t *device, size_t device_length,
                        uint32_t *maps, size_t maps_length,

@@ -14,11 +14,11 @@ pub close-fixed : {session₀ : List ℕ} {o : Outcome CloseResult} {device₀ m
 close-fixed {session₀ = session₀} h =
     record {
       other = λ not.
-          let e = ne-eqb (length session₀) 528 not in
+          let e = ne-eqb (length session₀) 648 not in
           let n = rw e at (h .number-is) in
           (n, rw e at (h .stored), rw e at (h .mapped), rw e at (h .owned), rw e at (h .moved), rw n at (h .handed));
       sized = λ right.
-          let e = eq-eqb (length session₀) 528 right in
+          let e = eq-eqb (length session₀) 648 right in
           let n = rw e at (h .number-is) in
           (n, rw e at (h .stored), rw e at (h .mapped), rw e at (h .owned), rw e at (h .moved), rw n at (h .handed));
     }

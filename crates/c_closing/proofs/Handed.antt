@@ -12,7 +12,7 @@ use Rattle.model.specs.Session.{Outcome}
 use Rattle.model.specs.Close.{CloseResult}
 use Rattle.model.specs.Answers.{closeResult, Leaves}
 use Rattle.records.specs.Structs.{sessionBytes, handedBack}
-use Rattle.records.specs.Answers.{closeNumber}
+use Rattle.replies.specs.Answers.{closeNumber}
 use Rattle.c_closing.specs.Handed.{CloseHanded}
 
 closeNumber-answer : (a : Answer) → answerNumber a ≡ closeNumber (closeResult a)
@@ -20,10 +20,10 @@ closeNumber-answer Served = refl
 closeNumber-answer (Refused r) = refl
 
 module _ {session₀ device₀ maps₀ owners₀ : List ℕ} {position₀ : ℕ} {o : Outcome CloseResult} where
-  pub close-session : (length session₀ ≡ 528 → ⊥)
+  pub close-session : (length session₀ ≡ 648 → ⊥)
       → CloseHanded session₀ o device₀ maps₀ owners₀ position₀ 13 device₀ maps₀ owners₀ position₀ session₀
   close-session other =
-      let e = ne-eqb (length session₀) 528 other in
+      let e = ne-eqb (length session₀) 648 other in
       record {
         number-is = rw e refl;
         stored = rw e refl;
@@ -33,12 +33,12 @@ module _ {session₀ device₀ maps₀ owners₀ : List ℕ} {position₀ : ℕ}
         handed = refl;
       }
 
-  pub close-sized : (a : Answer) {device maps owners session : List ℕ} {position number : ℕ} {s : Session} → length session₀ ≡ 528
+  pub close-sized : (a : Answer) {device maps owners session : List ℕ} {position number : ℕ} {s : Session} → length session₀ ≡ 648
       → Leaves CloseResult o device₀ (closeResult a) device maps owners position s → number ≡ answerNumber a
       → session ≡ handedBack number (sessionBytes s) session₀
       → CloseHanded session₀ o device₀ maps₀ owners₀ position₀ number device maps owners position session
   close-sized a {number = number} sized left numbered back =
-      let e = eq-eqb (length session₀) 528 sized in
+      let e = eq-eqb (length session₀) 648 sized in
       record {
         number-is = rw e (numbered ∙ closeNumber-answer a ∙ ap closeNumber (left .answered));
         stored = rw e (left .stored);

@@ -8,7 +8,7 @@ use Rattle.model.specs.Parts.{choose, patched}
 use Rattle.model.specs.Session.{Outcome}
 use Rattle.model.specs.Close.{CloseResult}
 use Rattle.records.specs.Structs.{sessionSized, sessionBytes, handedBack}
-use Rattle.records.specs.Answers.{closeNumber}
+use Rattle.replies.specs.Answers.{closeNumber}
 
 -- What a close hands over. A refused one leaves the session's bytes.
 pub record CloseHanded (session₀ : List ℕ) (o : Outcome CloseResult) (device₀ maps₀ owners₀ : List ℕ) (position₀ : ℕ) (number : ℕ)
@@ -25,9 +25,9 @@ pub record CloseHanded (session₀ : List ℕ) (o : Outcome CloseResult) (device
 -- What is left by a close whose struct has another size, and by one whose struct has its own.
 pub record CloseFixed (session₀ : List ℕ) (o : Outcome CloseResult) (device₀ maps₀ owners₀ : List ℕ) (position₀ : ℕ) (number : ℕ)
     (device maps owners : List ℕ) (position : ℕ) (session : List ℕ) : Type 0 where
-  pub other : (length session₀ ≡ 528 → ⊥)
+  pub other : (length session₀ ≡ 648 → ⊥)
       → (number ≡ 13) × (device ≡ device₀) × (maps ≡ maps₀) × (owners ≡ owners₀) × (position ≡ position₀) × (session ≡ session₀)
-  pub sized : length session₀ ≡ 528
+  pub sized : length session₀ ≡ 648
       → (number ≡ closeNumber (o .answer))
       × (device ≡ patched (o .patches) device₀)
       × (maps ≡ o .held .maps)

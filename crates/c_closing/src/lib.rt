@@ -23,7 +23,7 @@ pub extern "C" fn hiwalgam_close(
         (now (owners .entry)) (now (position .entry)) r (now (device .exit)) (now (maps .exit)) (now (owners .exit)) (now (position .exit))
         (now (session .exit)) ⌝ }
 {
-    if session.len() != 528 {
+    if session.len() != 648 {
         return 13;
     }
     let s = records::session_in(session);

@@ -25,7 +25,7 @@ pub extern "C" fn hiwalgam_find(
     ensures output { λ r. ⌜ now (out .exit) ≡ choose (sessionSized (now (session .entry))) (copiedOver (findModel (now (device .entry))
         (now (maps .entry)) (now (owners .entry)) (sessionIn (now (session .entry))) volume address) (now (out .entry))) (now (out .entry)) ⌝ }
 {
-    if session.len() != 528 {
+    if session.len() != 648 {
         return 0;
     }
     let s = records::session_in(session);

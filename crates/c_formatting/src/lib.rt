@@ -12,20 +12,21 @@ ghost use Rattle.c_formatting.specs.Handed.{FormatHanded, HandedLaws};
 pub extern "C" fn hiwalgam_format(
     device: &mut [u8],
     geometry: &[u8],
-    count: usize,
+    volumes: usize,
     keys: &[u8],
+    counts: &[usize],
     tape: &[u8],
     position: &mut usize,
 ) -> u8
-    ensures { λ r. ⌜ FormatHanded (now (geometry .entry)) (formatModel (length (now (device .entry))) (geometryIn (now (geometry .entry))) count
-        (now (keys .entry)) (now (tape .entry)) (now (position .entry))) (now (device .entry)) (now (position .entry)) r (now (device .exit))
+    ensures { λ r. ⌜ FormatHanded (now (geometry .entry)) (formatModel (length (now (device .entry))) (geometryIn (now (geometry .entry))) volumes
+        (now (keys .entry)) (now (counts .entry)) (now (tape .entry)) (now (position .entry))) (now (device .entry)) (now (position .entry)) r (now (device .exit))
         (now (position .exit)) ⌝ }
 {
     if geometry.len() != 24 {
         return 13;
     }
     let g = records::geometry_in(geometry);
-    let answer = lending::format_at(device, g, count, keys, tape, position);
+    let answer = lending::format_at(device, g, volumes, keys, counts, tape, position);
     refusals::answer_number(answer)
 }
 

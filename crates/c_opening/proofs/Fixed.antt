@@ -13,10 +13,10 @@ pub open-fixed : {geometry session₀ : List ℕ} {o : OpenOutcome} {maps₀ own
 open-fixed {geometry = geometry} {session₀ = session₀} h =
     record {
       other = λ not.
-          let e = not-both (length geometry) 24 (length session₀) 528 not in
+          let e = not-both (length geometry) 24 (length session₀) 648 not in
           (rw e at (h .number-is), rw e at (h .mapped), rw e at (h .owned), rw e at (h .handed));
       sized = λ first second.
           let d = eq-eqb (length geometry) 24 first in
-          let e = eq-eqb (length session₀) 528 second in
+          let e = eq-eqb (length session₀) 648 second in
           (rw (d, e) at (h .number-is), rw (d, e) at (h .mapped), rw (d, e) at (h .owned), rw (d, e) at (h .handed));
     }

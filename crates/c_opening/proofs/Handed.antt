@@ -8,7 +8,7 @@ use Rattle.model.specs.declared.Session.{Session}
 use Rattle.model.specs.Opening.{OpenOutcome, OpenResult}
 use Rattle.model.specs.Answers.{OpenLeaves}
 use Rattle.records.specs.Structs.{sessionBytes}
-use Rattle.records.specs.Answers.{openNumber}
+use Rattle.replies.specs.Answers.{openNumber}
 use Rattle.c_opening.specs.Handed.{OpenHanded}
 
 module _ {geometry session₀ maps₀ owners₀ : List ℕ} {o : OpenOutcome} where
@@ -17,18 +17,18 @@ module _ {geometry session₀ maps₀ owners₀ : List ℕ} {o : OpenOutcome} wh
       let e = ne-eqb (length geometry) 24 other in
       record { number-is = rw e refl; mapped = rw e refl; owned = rw e refl; handed = rw e refl }
 
-  pub open-session : length geometry ≡ 24 → (length session₀ ≡ 528 → ⊥) → OpenHanded geometry session₀ o maps₀ owners₀ 13 maps₀ owners₀ session₀
+  pub open-session : length geometry ≡ 24 → (length session₀ ≡ 648 → ⊥) → OpenHanded geometry session₀ o maps₀ owners₀ 13 maps₀ owners₀ session₀
   open-session sized other =
       let d = eq-eqb (length geometry) 24 sized in
-      let e = ne-eqb (length session₀) 528 other in
+      let e = ne-eqb (length session₀) 648 other in
       record { number-is = rw (d, e) refl; mapped = rw (d, e) refl; owned = rw (d, e) refl; handed = rw (d, e) refl }
 
-  pub open-sized : {a : OpenResult} {maps owners session : List ℕ} {s : Session} {number : ℕ} → length geometry ≡ 24 → length session₀ ≡ 528
+  pub open-sized : {a : OpenResult} {maps owners session : List ℕ} {s : Session} {number : ℕ} → length geometry ≡ 24 → length session₀ ≡ 648
       → OpenLeaves o a maps owners s → number ≡ openNumber a → session ≡ sessionBytes s
       → OpenHanded geometry session₀ o maps₀ owners₀ number maps owners session
   open-sized sized₁ sized₂ left number bytes =
       let d = eq-eqb (length geometry) 24 sized₁ in
-      let e = eq-eqb (length session₀) 528 sized₂ in
+      let e = eq-eqb (length session₀) 648 sized₂ in
       record {
         number-is = rw (d, e) (number ∙ ap openNumber (left .answered));
         mapped = rw (d, e) (left .mapped);

@@ -8,7 +8,7 @@ use lib.ListN.{length}
 use Rattle.model.specs.Parts.{choose}
 use Rattle.model.specs.Opening.{OpenOutcome}
 use Rattle.records.specs.Structs.{geometrySized, sessionSized, sessionBytes}
-use Rattle.records.specs.Answers.{openNumber}
+use Rattle.replies.specs.Answers.{openNumber}
 
 -- Whether the structs of an opening have their sizes.
 abbrev pub openSized : (geometry session : List ℕ) → Bool
@@ -27,9 +27,9 @@ pub record OpenHanded (geometry session₀ : List ℕ) (o : OpenOutcome) (maps�
 -- What is left by an opening whose structs have another size, and by one whose structs have theirs.
 pub record OpenFixed (geometry session₀ : List ℕ) (o : OpenOutcome) (maps₀ owners₀ : List ℕ) (number : ℕ) (maps owners session : List ℕ) : Type 0
   where
-    pub other : (length geometry ≡ 24 → length session₀ ≡ 528 → ⊥)
+    pub other : (length geometry ≡ 24 → length session₀ ≡ 648 → ⊥)
         → (number ≡ 13) × (maps ≡ maps₀) × (owners ≡ owners₀) × (session ≡ session₀)
-    pub sized : length geometry ≡ 24 → length session₀ ≡ 528
+    pub sized : length geometry ≡ 24 → length session₀ ≡ 648
         → (number ≡ openNumber (o .answer)) × (maps ≡ o .maps) × (owners ≡ o .owners) × (session ≡ sessionBytes (o .session))
 
 -- The contract fixes all that is lent to be written, whatever the sizes of the structs.

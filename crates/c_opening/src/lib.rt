@@ -24,14 +24,14 @@ pub extern "C" fn hiwalgam_open(
     if geometry.len() != 24 {
         return 13;
     }
-    if session.len() != 528 {
+    if session.len() != 648 {
         return 13;
     }
     let g = records::geometry_in(geometry);
     let o = opening::open(device, g, key, maps, owners, perm);
     records::put_session(session, o.session);
     let answer = o.answer;
-    records::open_number(answer)
+    replies::open_number(answer)
 }
 
 // What the contract fixes: nothing runs, and the check has to prove it.

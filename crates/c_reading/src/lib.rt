@@ -26,7 +26,7 @@ pub extern "C" fn hiwalgam_read(
         (now (maps .entry)) (now (owners .entry)) (sessionIn (now (session .entry))) volume address (length (now (buf .entry))))
         (now (buf .entry))) (now (buf .entry)) ⌝ }
 {
-    if session.len() != 528 {
+    if session.len() != 648 {
         return 13;
     }
     let s = records::session_in(session);

@@ -15,14 +15,14 @@ pub write-fixed : {session₀ written₀ : List ℕ} {o : Outcome WriteResult} {
 write-fixed {session₀ = session₀} {written₀ = written₀} h =
     record {
       other = λ not.
-          let e = not-both (length written₀) 24 (length session₀) 528 not in
+          let e = not-both (length written₀) 24 (length session₀) 648 not in
           let n = rw e at (h .number-is) in
           (n, rw e at (h .stored), rw e at (h .mapped), rw e at (h .owned), rw e at (h .moved), rw n at (h .handed));
       untold = λ not. let e = ne-eqb (length written₀) 24 not in rw e at (h .told);
-      told = λ first not. let d = eq-eqb (length written₀) 24 first in let e = ne-eqb (length session₀) 528 not in rw (d, e) at (h .told);
+      told = λ first not. let d = eq-eqb (length written₀) 24 first in let e = ne-eqb (length session₀) 648 not in rw (d, e) at (h .told);
       sized = λ first second.
           let d = eq-eqb (length written₀) 24 first in
-          let e = eq-eqb (length session₀) 528 second in
+          let e = eq-eqb (length session₀) 648 second in
           let n = rw (d, e) at (h .number-is) in (
             n,
             rw (d, e) at (h .told),

@@ -8,8 +8,9 @@ use lib.ListN.{length}
 use Rattle.model.specs.Parts.{choose, patched}
 use Rattle.model.specs.Session.{Outcome}
 use Rattle.model.specs.Write.{WriteResult}
-use Rattle.records.specs.Structs.{sessionSized, writtenSized, sessionBytes, handedBack, writtenBytes}
-use Rattle.records.specs.Answers.{writeNumber}
+use Rattle.records.specs.Structs.{sessionSized, sessionBytes, handedBack}
+use Rattle.replies.specs.Written.{writtenSized, writtenBytes}
+use Rattle.replies.specs.Answers.{writeNumber}
 
 -- Whether the structs of a write have their sizes.
 abbrev pub writeSized : (session written : List ℕ) → Bool
@@ -36,11 +37,11 @@ pub record WriteHanded (session₀ written₀ : List ℕ) (o : Outcome WriteResu
 -- the other has another size.
 pub record WriteFixed (session₀ written₀ : List ℕ) (o : Outcome WriteResult) (device₀ maps₀ owners₀ : List ℕ) (position₀ : ℕ) (number : ℕ)
     (device maps owners : List ℕ) (position : ℕ) (session written : List ℕ) : Type 0 where
-  pub other : (length written₀ ≡ 24 → length session₀ ≡ 528 → ⊥)
+  pub other : (length written₀ ≡ 24 → length session₀ ≡ 648 → ⊥)
       → (number ≡ 13) × (device ≡ device₀) × (maps ≡ maps₀) × (owners ≡ owners₀) × (position ≡ position₀) × (session ≡ session₀)
   pub untold : (length written₀ ≡ 24 → ⊥) → written ≡ written₀
-  pub told : length written₀ ≡ 24 → (length session₀ ≡ 528 → ⊥) → written ≡ writtenBytes (WriteResult.Refused 13 0)
-  pub sized : length written₀ ≡ 24 → length session₀ ≡ 528
+  pub told : length written₀ ≡ 24 → (length session₀ ≡ 648 → ⊥) → written ≡ writtenBytes (WriteResult.Refused 13 0)
+  pub sized : length written₀ ≡ 24 → length session₀ ≡ 648
       → (number ≡ writeNumber (o .answer))
       × (written ≡ writtenBytes (o .answer))
       × (device ≡ patched (o .patches) device₀)

@@ -1,8 +1,8 @@
 // The C function that writes a block, for libhiwalgam.a (include/hiwalgam.h): write.
 //
-// Arguments pass as in `c_ciphers`. The structs of the header are lent as their bytes, which crate `records` reads and writes.
-// A struct of another size than the header's is 13 before everything else, and then all that was lent stays; but the answer of the
-// write is told where its own struct has its size.
+// Arguments pass as in `c_ciphers`. The structs of the header are lent as their bytes: crate `records` reads and writes the session's,
+// and `replies` writes the answer's. A struct of another size than the header's is 13 before everything else, and then all that was lent
+// stays; but the answer of the write is told where its own struct has its size.
 ghost use lib.ListN.{length};
 ghost use Rattle.model.specs.Session.{held};
 ghost use Rattle.model.specs.Write.{writeModel};
@@ -34,8 +34,8 @@ pub extern "C" fn hiwalgam_write(
     if written.len() != 24 {
         return 13;
     }
-    if session.len() != 528 {
-        records::put_written(
+    if session.len() != 648 {
+        replies::put_written(
             written,
             WriteAnswer::Refused {
                 refusal: Refusal::WrongLength,
@@ -58,8 +58,8 @@ pub extern "C" fn hiwalgam_write(
         text,
     );
     let answer = w.answer;
-    records::put_written(written, answer);
-    let number = records::write_number(answer);
+    replies::put_written(written, answer);
+    let number = replies::write_number(answer);
     records::hand_back(session, w.session, number);
     number
 }

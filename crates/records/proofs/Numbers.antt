@@ -1,14 +1,15 @@
--- Laws of numbers of eight bytes, least significant first. Assumes nothing.
+-- Laws of numbers of eight bytes, least significant first, and of such numbers one after the other. Assumes nothing.
 use mathlib.Core.Path.{_≡_, refl, sym, ap, ap₂, _∙_}
-use mathlib.Core.List.{List, [], _∷_}
+use mathlib.Core.List.{List, [], _∷_, _++_, append-nil, append-assoc}
 use Prim.Native.Nat.{ℕ, zero, suc, _+_, _*_, _/_, _%_, _^_, _<_}
 use native.Mathlib.Nat.{pow-suc, div-div-eq-div-mul}
 use native.Mathlib.Numerals.{add-one}
 use native.Mathlib.Omega.{arith}
-use lib.ListN.{length, getD, take, drop}
-use lib.Seq.{drop-cons}
+use lib.ListN.{length, getD, take, drop, length-append}
+use lib.Seq.{drop-cons, take-suc}
 use Rattle.model.specs.Parts.{part}
-use Rattle.records.specs.Numbers.{littleNumber, littleEndian, eightBytes}
+use Rattle.model.proofs.Parts.{part-first, part-right}
+use Rattle.records.specs.Numbers.{littleNumber, littleEndian, eightAt, eightBytes, numbersAt, numbersBytes}
 
 pub littleEndian-length : (n x : ℕ) → length (littleEndian n x) ≡ n
 unfolding littleEndian
@@ -47,3 +48,49 @@ pub eightBytes-digits : (n : ℕ)
     ∷ [] ≡ eightBytes n
 unfolding littleEndian
 eightBytes-digits n = sym (simp div-div-eq-div-mul)
+
+-- ---- numbers one after the other
+
+-- Numbers that are those at their places are what is read there.
+pub numbersAt-entries : (n at : ℕ) (r numbers : List ℕ) → length numbers ≡ n
+    → ((j : ℕ) → j < n → getD numbers j 0 ≡ eightAt (at + 8 * j) r) → numbers ≡ numbersAt n at r
+unfolding numbersAt
+numbersAt-entries zero at r [] e h = refl
+numbersAt-entries zero at r (x ∷ xs) e h = absurd (omega arith)
+numbersAt-entries (suc n) at r [] e h = absurd (omega arith)
+numbersAt-entries (suc n) at r (x ∷ xs) e h =
+    let here : at + 8 * 0 ≡ at = omega arith in
+    let next : (j : ℕ) → at + 8 * suc j ≡ at + 8 + 8 * j = λ j. omega arith in
+    ap₂ (λ (y : ℕ) (ys : List ℕ). y ∷ ys) (h 0 (omega arith) ∙ ap (λ (a : ℕ). eightAt a r) here)
+    (numbersAt-entries n (at + 8) r xs (omega arith) (λ j l. h (suc j) (omega arith) ∙ ap (λ (a : ℕ). eightAt a r) (next j)))
+
+pub numbersBytes-length : (numbers : List ℕ) → length (numbersBytes numbers) ≡ 8 * length numbers
+unfolding numbersBytes
+numbersBytes-length [] = omega arith
+numbersBytes-length (x ∷ xs) =
+    omega (arith, length-append (eightBytes x) (numbersBytes xs), littleEndian-length 8 x, numbersBytes-length xs)
+
+-- Each number stands at its place.
+pub numbersBytes-part : (numbers : List ℕ) (i : ℕ) → i < length numbers → part (8 * i) 8 (numbersBytes numbers) ≡ eightBytes (getD numbers i 0)
+unfolding numbersBytes
+numbersBytes-part [] i h = absurd (omega arith)
+numbersBytes-part (x ∷ xs) zero h = part-first (eightBytes x) (numbersBytes xs) 8 (littleEndian-length 8 x)
+numbersBytes-part (x ∷ xs) (suc i) h =
+    let next : 8 * suc i ≡ 8 + 8 * i = omega arith in
+    ap (λ (a : ℕ). part a 8 (numbersBytes (x ∷ xs))) next
+    ∙ part-right (eightBytes x) (numbersBytes xs) 8 (littleEndian-length 8 x) (8 * i) 8
+    ∙ numbersBytes-part xs i (omega arith)
+
+-- One number more behind those written so far.
+numbersBytes-behind : (numbers : List ℕ) (x : ℕ) → numbersBytes (numbers ++ (x ∷ [])) ≡ numbersBytes numbers ++ eightBytes x
+unfolding numbersBytes
+numbersBytes-behind [] x = append-nil (eightBytes x)
+numbersBytes-behind (y ∷ ys) x =
+    ap (λ (l : List ℕ). eightBytes y ++ l) (numbersBytes-behind ys x) ∙ sym (append-assoc (eightBytes y) (numbersBytes ys) (eightBytes x))
+
+pub numbersBytes-turn : (numbers : List ℕ) (i : ℕ) → i < length numbers
+    → numbersBytes (take i numbers) ++ eightBytes (getD numbers i 0) ≡ numbersBytes (take (i + 1) numbers)
+numbersBytes-turn numbers i h =
+    sym (ap (λ (n : ℕ). numbersBytes (take n numbers)) (add-one i)
+    ∙ ap numbersBytes (take-suc numbers i 0 h)
+    ∙ numbersBytes-behind (take i numbers) (getD numbers i 0))

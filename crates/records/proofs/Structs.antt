@@ -2,20 +2,23 @@
 use mathlib.Core.Path.{_≡_, refl, sym, ap, ap₂, _∙_, subst}
 use mathlib.Core.Bool.{Bool, true, false, _&&_}
 use mathlib.Core.List.{List, [], _++_, append-nil}
-use Prim.Native.Nat.{ℕ, _+_, _^_, _<_}
+use Prim.Native.Nat.{ℕ, _+_, _*_, _^_, _<_}
 use native.Mathlib.Omega.{arith}
 use lib.Dec.{eqb}
-use lib.ListN.{length, length-append}
+use lib.ListN.{length, getD, take, length-append}
+use lib.Seq.{length-take-le}
 use borrow.Author.Tests.{eqb-true, eq-eqb, ne-eqb}
 use Rattle.model.specs.declared.Geometry.{Geometry}
 use Rattle.model.specs.declared.Session.{Session}
 use Rattle.model.specs.Parts.{choose, part, overlay}
+use Rattle.model.specs.Session.{countOf}
 use Rattle.model.proofs.Parts.{part-first, part-next, part-last, part-left, part-right}
 use Rattle.places.proofs.Parts.{overlay-append, overlay-all}
-use Rattle.records.specs.Numbers.{eightAt, eightBytes, threeBytes, littleNumber}
+use Rattle.records.specs.Numbers.{eightAt, eightBytes, numbersBytes, threeBytes, littleNumber}
 use Rattle.records.specs.Structs.{bitOf, geometryIn, geometryBytes, sessionIn, sessionBytes, handedBack}
 use Rattle.records.specs.Theorems.{Numbers64, Fits, SessionFields, Fields}
 use Rattle.records.proofs.Numbers.{littleEndian-length, littleNumber-littleEndian}
+use Rattle.records.proofs.Numbers.{numbersAt-entries, numbersBytes-length, numbersBytes-part, numbersBytes-turn}
 
 -- ---- lengths
 
@@ -28,13 +31,22 @@ threeBytes-length x y z =
     ∙ ap₂ (λ (m n : ℕ). m + n) (eightBytes-length x)
     (length-append (eightBytes y) (eightBytes z) ∙ ap₂ (λ (m n : ℕ). m + n) (eightBytes-length y) (eightBytes-length z))
 
-pub sessionBytes-length : (s : Session) → length (s .keys) ≡ 480 → length (sessionBytes s) ≡ 528
-sessionBytes-length s e =
+pub sessionBytes-length : (s : Session) → length (s .keys) ≡ 480 → length (s .counts) ≡ 15 → length (sessionBytes s) ≡ 648
+sessionBytes-length s keys counts =
     let g = s .geometry in
     let numbers = threeBytes (s .k) (bitOf (s .opened)) (s .start) in
-    length-append (geometryBytes g) (numbers ++ s .keys)
-    ∙ ap₂ (λ (m n : ℕ). m + n) (threeBytes-length (g .b) (g .s) (g .p))
-    (length-append numbers (s .keys) ∙ ap₂ (λ (m n : ℕ). m + n) (threeBytes-length (s .k) (bitOf (s .opened)) (s .start)) e)
+    let rest = s .keys ++ numbersBytes (s .counts) in
+    omega (
+      arith,
+      length-append (geometryBytes g) (numbers ++ rest),
+      length-append numbers rest,
+      length-append (s .keys) (numbersBytes (s .counts)),
+      threeBytes-length (g .b) (g .s) (g .p),
+      threeBytes-length (s .k) (bitOf (s .opened)) (s .start),
+      numbersBytes-length (s .counts),
+      keys,
+      counts,
+    )
 
 -- A struct of n bytes, of its size m or another: what a call gives, or what stood.
 module _ {A : Type 0} {n m : ℕ} where
@@ -108,11 +120,23 @@ session-fields s f =
     let n = f .geometry-fits in
     let opened = bitOf (s .opened) in
     let first = geometryBytes g in
-    let rest = threeBytes (s .k) opened (s .start) ++ s .keys in
+    let second = threeBytes (s .k) opened (s .start) in
+    let counts = numbersBytes (s .counts) in
+    let last = s .keys ++ counts in
+    let rest = second ++ last in
     let numbers = three-before (g .b) (g .s) (g .p) rest (n .b-fits) (n .s-fits) (n .p-fits) in
-    let more = three-before (s .k) opened (s .start) (s .keys) (f .k-fits) (bit-small (s .opened)) (f .start-fits) in
+    let more = three-before (s .k) opened (s .start) last (f .k-fits) (bit-small (s .opened)) (f .start-fits) in
+    let second-long : length second ≡ 24 = threeBytes-length (s .k) opened (s .start) in
     let behind : (x u : ℕ) → part (24 + x) u (sessionBytes s) ≡ part x u rest =
     part-right first rest 24 (threeBytes-length (g .b) (g .s) (g .p)) in
+    let place : (i : ℕ) → 528 + 8 * i ≡ 24 + (24 + (480 + 8 * i)) = λ i. omega arith in
+    let count : (i : ℕ) → i < 15 → part (528 + 8 * i) 8 (sessionBytes s) ≡ eightBytes (countOf s i) =
+    λ i l.
+    ap (λ (a : ℕ). part a 8 (sessionBytes s)) (place i)
+    ∙ behind (24 + (480 + 8 * i)) 8
+    ∙ part-right second last 24 second-long (480 + 8 * i) 8
+    ∙ part-right (s .keys) counts 480 (f .keys-long) (8 * i) 8
+    ∙ numbersBytes-part (s .counts) i (omega (arith, f .counts-long, l)) in
     record {
       block-bytes = numbers .first;
       slice-blocks = numbers .second;
@@ -120,9 +144,8 @@ session-fields s f =
       volume = ap littleNumber (behind 0 8) ∙ more .first;
       is-open = ap littleNumber (behind 8 8) ∙ more .second;
       start-place = ap littleNumber (behind 16 8) ∙ more .third;
-      data-keys =
-          behind 24 480
-          ∙ part-last (threeBytes (s .k) opened (s .start)) (s .keys) 24 480 (threeBytes-length (s .k) opened (s .start)) (f .keys-long);
+      data-keys = behind 24 480 ∙ part-next second (s .keys) counts 24 480 second-long (f .keys-long);
+      slice-counts = λ i l. eight-again (528 + 8 * i) (countOf s i) (sessionBytes s) (count i l) (f .counts-fit i l);
     }
 
 -- 1 is read as true and 0 as false.
@@ -134,7 +157,8 @@ pub session-again : (s : Session) → Fits s → sessionIn (sessionBytes s) ≡ 
 session-again s h =
     let f = session-fields s h in
     let opened = ap (λ (x : ℕ). eqb x 1) (f .is-open) ∙ bit-again (s .opened) in
-    rw (f .block-bytes, f .slice-blocks, f .slices, f .volume, f .start-place, f .data-keys, opened) refl
+    let counts = sym (numbersAt-entries 15 528 (sessionBytes s) (s .counts) (h .counts-long) (λ i l. sym (f .slice-counts i l))) in
+    rw (f .block-bytes, f .slice-blocks, f .slices, f .volume, f .start-place, f .data-keys, opened, counts) refl
 
 -- ---- putting together
 
@@ -147,16 +171,31 @@ overlay-three r at x y z =
     ∙ overlay-next (overlay r at (eightBytes x)) (at + 8) 8 (eightBytes y) (eightBytes z) (eightBytes-length y)
     ∙ overlay-next r at 8 (eightBytes x) (eightBytes y ++ eightBytes z) (eightBytes-length x)
 
+-- One count more behind those that were put into a struct.
+pub overlay-count : (r counts : List ℕ) (i : ℕ) → i < length counts
+    → overlay (overlay r 528 (numbersBytes (take i counts))) (528 + 8 * i) (eightBytes (getD counts i 0))
+    ≡ overlay r 528 (numbersBytes (take (i + 1) counts))
+overlay-count r counts i h =
+    let long : length (numbersBytes (take i counts)) ≡ 8 * i =
+    numbersBytes-length (take i counts) ∙ ap (λ (n : ℕ). 8 * n) (length-take-le i counts (omega arith)) in
+    overlay-next r 528 (8 * i) (numbersBytes (take i counts)) (eightBytes (getD counts i 0)) long
+    ∙ ap (overlay r 528) (numbersBytes-turn counts i h)
+
 -- A session over a struct of its size.
-pub overlay-session : (r : List ℕ) (s : Session) → length r ≡ 528 → length (s .keys) ≡ 480
-    → overlay (overlay (overlay r 0 (geometryBytes (s .geometry))) 24 (threeBytes (s .k) (bitOf (s .opened)) (s .start))) 48 (s .keys)
+pub overlay-session : (r : List ℕ) (s : Session) → length r ≡ 648 → length (s .keys) ≡ 480 → length (s .counts) ≡ 15
+    → overlay
+    (overlay (overlay (overlay r 0 (geometryBytes (s .geometry))) 24 (threeBytes (s .k) (bitOf (s .opened)) (s .start))) 48 (s .keys)) 528
+    (numbersBytes (s .counts))
     ≡ sessionBytes s
-overlay-session r s long e =
+overlay-session r s long keys counts =
     let g = s .geometry in
     let numbers = threeBytes (s .k) (bitOf (s .opened)) (s .start) in
-    overlay-next (overlay r 0 (geometryBytes g)) 24 24 numbers (s .keys) (threeBytes-length (s .k) (bitOf (s .opened)) (s .start))
-    ∙ overlay-next r 0 24 (geometryBytes g) (numbers ++ s .keys) (threeBytes-length (g .b) (g .s) (g .p))
-    ∙ overlay-all r (sessionBytes s) (sessionBytes-length s e ∙ sym long)
+    let bytes = numbersBytes (s .counts) in
+    let begun = overlay r 0 (geometryBytes g) in
+    overlay-next (overlay begun 24 numbers) 48 480 (s .keys) bytes keys
+    ∙ overlay-next begun 24 24 numbers (s .keys ++ bytes) (threeBytes-length (s .k) (bitOf (s .opened)) (s .start))
+    ∙ overlay-next r 0 24 (geometryBytes g) (numbers ++ (s .keys ++ bytes)) (threeBytes-length (g .b) (g .s) (g .p))
+    ∙ overlay-all r (sessionBytes s) (sessionBytes-length s keys counts ∙ sym long)
 
 -- Three numbers over a struct of their size.
 pub overlay-three-all : (r : List ℕ) (x y z : ℕ) → length r ≡ 24 → overlay r 0 (threeBytes x y z) ≡ threeBytes x y z

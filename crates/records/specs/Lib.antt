@@ -1,4 +1,3 @@
 pub mod Numbers
 pub mod Structs
-pub mod Answers
 pub mod Theorems

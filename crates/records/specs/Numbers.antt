@@ -21,6 +21,15 @@ eightAt at r = littleNumber (part at 8 r)
 abbrev pub eightBytes : ℕ → List ℕ
 eightBytes x = littleEndian 8 x
 
+-- n numbers in a struct, one after the other from byte at on, and the bytes of numbers so.
+unfoldable pub numbersAt : (n at : ℕ) → List ℕ → List ℕ
+numbersAt zero at r = []
+numbersAt (suc n) at r = eightAt at r ∷ numbersAt n (at + 8) r
+
+unfoldable pub numbersBytes : List ℕ → List ℕ
+numbersBytes [] = []
+numbersBytes (x ∷ xs) = eightBytes x ++ numbersBytes xs
+
 -- Three numbers, one after the other.
 abbrev pub threeBytes : (x y z : ℕ) → List ℕ
 threeBytes x y z = eightBytes x ++ (eightBytes y ++ eightBytes z)

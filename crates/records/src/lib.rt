@@ -1,19 +1,14 @@
-// The structs that the C functions are lent (include/hiwalgam.h), read and written as bytes: a geometry, a session, and the answer
-// of a write. Reading asks nothing but the struct's size: any bytes are some geometry or session.
+// The structs that the C functions are lent (include/hiwalgam.h), read and written as bytes: a geometry and a session. Reading asks
+// nothing but the struct's size: any bytes are some geometry or session. The answer of a write stands in crate `replies`.
 ghost use mathlib.Core.Path.{_≡_};
 ghost use Prim.Native.Nat.{_+_, _≤_, _<_};
 ghost use lib.ListN.{length};
 ghost use Rattle.model.specs.Parts.{part, overlay};
-ghost use Rattle.model.specs.Answers.{openResult, changeSlice, writeResult};
-ghost use Rattle.records.specs.Numbers.{eightAt, eightBytes, threeBytes};
-ghost use Rattle.records.specs.Structs.{geometryIn, sessionIn, sessionBytes, handedBack, bitOf, changeClaimed, writtenBytes};
-ghost use Rattle.records.specs.Answers.{openNumber, writeNumber};
+ghost use Rattle.records.specs.Numbers.{eightAt, eightBytes, numbersAt, numbersBytes, threeBytes};
+ghost use Rattle.records.specs.Structs.{geometryIn, sessionIn, sessionBytes, handedBack, bitOf};
 ghost use Rattle.records.specs.Theorems.{RecordLaws};
-use model::Change;
 use model::Geometry;
-use model::OpenAnswer;
 use model::Session;
-use model::WriteAnswer;
 
 // ---- numbers
 
@@ -56,7 +51,7 @@ fn put_eight(r: &mut [u8], at: usize, n: usize)
 }
 
 // Three numbers over the bytes of r from place at on.
-fn put_three(r: &mut [u8], at: usize, x: usize, y: usize, z: usize)
+pub fn put_three(r: &mut [u8], at: usize, x: usize, y: usize, z: usize)
     requires { ⌜ at + 24 ≤ length (now r) ⌝ }
     ensures { λ _. ⌜ now (r .exit) ≡ overlay (now (r .entry)) at (threeBytes x y z) ⌝ }
 {
@@ -66,7 +61,7 @@ fn put_three(r: &mut [u8], at: usize, x: usize, y: usize, z: usize)
 }
 
 // 1 for true, 0 for false.
-fn bit_of(b: bool) -> usize
+pub fn bit_of(b: bool) -> usize
     ensures { λ r. ⌜ r ≡ bitOf b ⌝ }
 {
     if b { 1 } else { 0 }
@@ -88,7 +83,7 @@ pub fn geometry_in(r: &[u8]) -> Geometry
 
 // The data keys in a session's struct.
 fn keys_in(r: &[u8]) -> [u8; 480]
-    requires { ⌜ length (now r) ≡ 528 ⌝ }
+    requires { ⌜ length (now r) ≡ 648 ⌝ }
     ensures { λ keys. ⌜ keys ≡ part 48 480 (now (r .entry)) ⌝ }
 {
     let mut keys = [0u8; 480];
@@ -96,9 +91,23 @@ fn keys_in(r: &[u8]) -> [u8; 480]
     keys
 }
 
+// The counts in it.
+fn counts_in(r: &[u8]) -> [usize; 15]
+    requires { ⌜ length (now r) ≡ 648 ⌝ }
+    ensures { λ counts. ⌜ counts ≡ numbersAt 15 528 (now (r .entry)) ⌝ }
+{
+    let mut counts = [0usize; 15];
+    let mut i = 0;
+    while i < 15 {
+        counts[i] = eight_at(r, 528 + 8 * i);
+        i += 1;
+    }
+    counts
+}
+
 // The session in its struct.
 pub fn session_in(r: &[u8]) -> Session
-    requires { ⌜ length (now r) ≡ 528 ⌝ }
+    requires { ⌜ length (now r) ≡ 648 ⌝ }
     ensures { λ s. ⌜ s ≡ sessionIn (now (r .entry)) ⌝ }
 {
     Session {
@@ -107,12 +116,25 @@ pub fn session_in(r: &[u8]) -> Session
         keys: keys_in(r),
         opened: eight_at(r, 32) == 1,
         start: eight_at(r, 40),
+        counts: counts_in(r),
+    }
+}
+
+// Counts into the struct of a session.
+fn put_counts(r: &mut [u8], counts: &[usize])
+    requires { ⌜ (length (now r) ≡ 648) × (length (now counts) ≡ 15) ⌝ }
+    ensures { λ _. ⌜ now (r .exit) ≡ overlay (now (r .entry)) 528 (numbersBytes (now (counts .entry))) ⌝ }
+{
+    let mut i = 0;
+    while i < counts.len() {
+        put_eight(r, 528 + 8 * i, counts[i]);
+        i += 1;
     }
 }
 
 // A session into its struct.
 pub fn put_session(r: &mut [u8], s: Session)
-    requires { ⌜ length (now r) ≡ 528 ⌝ }
+    requires { ⌜ length (now r) ≡ 648 ⌝ }
     ensures { λ _. ⌜ now (r .exit) ≡ sessionBytes s ⌝ }
 {
     let g = s.geometry;
@@ -120,79 +142,17 @@ pub fn put_session(r: &mut [u8], s: Session)
     put_three(r, 24, s.k, bit_of(s.opened), s.start);
     let keys = s.keys;
     places::store(r, 48, &keys);
+    let counts = s.counts;
+    put_counts(r, &counts);
 }
 
 // A session into its struct where the call was served or found no free slice; another refusal leaves the bytes.
 pub fn hand_back(r: &mut [u8], s: Session, number: u8)
-    requires { ⌜ length (now r) ≡ 528 ⌝ }
+    requires { ⌜ length (now r) ≡ 648 ⌝ }
     ensures { λ _. ⌜ now (r .exit) ≡ handedBack number (sessionBytes s) (now (r .entry)) ⌝ }
 {
     if number == 0 || number == 22 {
         put_session(r, s);
-    }
-}
-
-// ---- the answer of a write
-
-fn change_claimed(change: Change) -> bool
-    ensures { λ r. ⌜ r ≡ changeClaimed change ⌝ }
-{
-    match change {
-        Change::Claimed(_) => true,
-        Change::Rewritten(_) => false,
-    }
-}
-
-fn change_slice(change: Change) -> usize
-    ensures { λ r. ⌜ r ≡ changeSlice change ⌝ }
-{
-    match change {
-        Change::Claimed(slice) => slice,
-        Change::Rewritten(slice) => slice,
-    }
-}
-
-// The answer of a write into its struct.
-pub fn put_written(r: &mut [u8], answer: WriteAnswer)
-    requires { ⌜ length (now r) ≡ 24 ⌝ }
-    ensures { λ _. ⌜ now (r .exit) ≡ writtenBytes (writeResult answer) ⌝ }
-{
-    match answer {
-        WriteAnswer::Served { change, probes } => {
-            put_three(
-                r,
-                0,
-                bit_of(change_claimed(change)),
-                change_slice(change),
-                probes,
-            );
-        }
-        WriteAnswer::Refused { refusal: _, probes } => {
-            put_three(r, 0, 0, 0, probes);
-        }
-    }
-}
-
-// ---- the numbers of answers
-
-pub fn open_number(answer: OpenAnswer) -> u8
-    ensures { λ r. ⌜ r ≡ openNumber (openResult answer) ⌝ }
-{
-    match answer {
-        OpenAnswer::Opened(_) => 0,
-        OpenAnswer::Refused(r) => refusals::refusal_number(r),
-    }
-}
-
-pub fn write_number(answer: WriteAnswer) -> u8
-    ensures { λ r. ⌜ r ≡ writeNumber (writeResult answer) ⌝ }
-{
-    match answer {
-        WriteAnswer::Served {
-            change: _,
-            probes: _,
-        } => 0,
-        WriteAnswer::Refused { refusal, probes: _ } => refusals::refusal_number(refusal),
     }
 }
 

@@ -1,8 +1,7 @@
 -- `records::record_laws` meets its contract. Assumes nothing.
 use mathlib.Core.Path.{refl}
-use native.Mathlib.Omega.{arith}
 use Rattle.records.proofs.Structs.{session-fields, session-again, sessionBytes-length, geometry-fields, geometry-again}
-use Rattle.records.proofs.Structs.{three-fields, threeBytes-length, handedBack-kept}
+use Rattle.records.proofs.Structs.{threeBytes-length, handedBack-kept}
 use Rattle.records.proofs.record_laws.Statement.{statement}
 use Rattle.records.proofs.record_laws.Tie as tie
 
@@ -17,9 +16,6 @@ returns c =
       session-kept = handedBack-kept;
       geometry-fields = geometry-fields;
       geometry-again = geometry-again;
-      written-claimed = λ ψ probes. three-fields 1 ψ probes (omega arith);
-      written-rewritten = λ ψ probes. three-fields 0 ψ probes (omega arith);
-      written-refused = λ number probes. three-fields 0 0 probes (omega arith) (omega arith);
       three-long = threeBytes-length;
     }
 

@@ -6,12 +6,21 @@ use Rattle.records.proofs.session_in.Tie as tie
 
 returns : tie.Need-returns
 returns c =
-    let opened = c .before in
+    let start = c .before in
+    let opened = start .before in
     let k = opened .before .before in
-    rw (c .eight-at3 .ensures, opened .eight-at2 .ensures, opened .before .keys-in .ensures, k .eight-at .ensures, k .before .geometry-in .ensures)
+    rw (
+      c .counts-in .ensures,
+      start .eight-at3 .ensures,
+      opened .eight-at2 .ensures,
+      opened .before .keys-in .ensures,
+      k .eight-at .ensures,
+      k .before .geometry-in .ensures,
+    )
     refl
 
 pub session-in-spec : {M : Type 1} → statement M
 session-in-spec =
     tie.close
-    (tie.spec (λ c κs. search needs) (λ c κs. search needs) (λ c κs. search needs) (λ c κs. search needs) (λ c κs. search needs) returns)
+    (tie.spec (λ c κs. search needs) (λ c κs. search needs) (λ c κs. search needs) (λ c κs. search needs) (λ c κs. search needs)
+    (λ c κs. search needs) returns)

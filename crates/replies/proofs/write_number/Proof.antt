@@ -1,7 +1,7 @@
--- `records::write_number` meets its contract. Assumes nothing.
+-- `replies::write_number` meets its contract. Assumes nothing.
 use borrow.Author.Needs.{needs}
-use Rattle.records.proofs.write_number.Statement.{statement}
-use Rattle.records.proofs.write_number.Tie as tie
+use Rattle.replies.proofs.write_number.Statement.{statement}
+use Rattle.replies.proofs.write_number.Tie as tie
 
 returns-2 : tie.Need-returns-2
 returns-2 c = rw (c .before .before .answer .given .1) (c .refusal-number .ensures)

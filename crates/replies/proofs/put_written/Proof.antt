@@ -1,10 +1,10 @@
--- `records::put_written` meets its contract. Assumes nothing.
+-- `replies::put_written` meets its contract. Assumes nothing.
 use mathlib.Core.Path.{_∙_, ap}
 use borrow.Author.Needs.{needs}
 use Rattle.records.specs.Structs.{bitOf}
 use Rattle.records.proofs.Structs.{overlay-three-all, threeBytes-same}
-use Rattle.records.proofs.put_written.Statement.{statement}
-use Rattle.records.proofs.put_written.Tie as tie
+use Rattle.replies.proofs.put_written.Statement.{statement}
+use Rattle.replies.proofs.put_written.Tie as tie
 
 returns : tie.Need-returns
 returns c =
