@@ -6,15 +6,21 @@ use crate::refusal::answered;
 use crate::sys;
 use crate::{Geometry, Refusal, Tape};
 
-/// Makes a blank device: key `i` of `keys`, which are `count` keys of 32 bytes end to end, opens the
-/// volumes 0 to `i`, and every block of them is zeros. There are 1 to 15 keys.
+/// Makes a blank device with 1 to 15 volumes. `keys` has a key of 32 bytes for each, end to end: key
+/// `i` opens the volumes 0 to `i`, and every block of them is zeros. `counts` has for each volume its
+/// N, the number of its logical slices, from 1 to P: the volume has N x S blocks, and an open session
+/// tells how many ([`Session::blocks`](crate::Session::blocks)).
+///
+/// A count sets no slice aside. The volumes take the slices of the device as their blocks are written,
+/// whatever their counts add up to; a volume that is to be as large as the device has P.
 ///
 /// The device has [`Geometry::device_length`] bytes, and is written whole: what it held is gone. All
 /// of it comes from the tape, as do the keys of the volumes and the IVs of what is sealed. The tape
 /// has [`Geometry::format_tape_length`] bytes left at least, which are random and unused before, and
 /// its position is moved on by so many.
 ///
-/// Refused by 1, 2, 23, 3 (`keys` is not 32 bytes for each), 21, 24 (a key opens the cell of a lower
+/// Refused by 1 (also for a count that is not 1 to P, and where `counts` has not one for each of the
+/// volumes), 2, 23, 3 (`keys` is not 32 bytes for each), 21, 24 (a key opens the cell of a lower
 /// volume: a key that was given twice does). Device and position stay then.
 ///
 /// ```
@@ -25,16 +31,18 @@ use crate::{Geometry, Refusal, Tape};
 /// #     (0..length).map(|i| (i * i / 7 + i / 251) as u8).collect()
 /// # }
 /// let geometry = Geometry { block_bytes: 1024, slice_blocks: 4, slices: 4 };
-/// let keys = [[7; 32], [8; 32]];
+/// // Volume 0 has one logical slice, volume 1 as many as the device has slices.
+/// let (keys, counts) = ([[7; 32], [8; 32]], [1, geometry.slices]);
 /// let drawn = random(geometry.format_tape_length(keys.len()) + 2048);
 /// let mut tape = Tape::new(&drawn);
 /// let mut device = vec![0; geometry.device_length()];
-/// hiwalgam::format(&mut device, geometry, keys.len(), keys.as_flattened(), &mut tape)?;
+/// hiwalgam::format(&mut device, geometry, keys.len(), keys.as_flattened(), &counts, &mut tape)?;
 ///
 /// // Key 1 opens the volumes 0 and 1, which are zeros.
 /// let (mut tables, permutation) = (Tables::new(geometry), [2, 0, 3, 1]);
 /// let mut session = Session::open(&device, geometry, &keys[1], &mut tables, &permutation)?;
 /// assert_eq!(session.volume(), 1);
+/// assert_eq!([0, 1, 2].map(|volume| session.blocks(volume)), [Some(4), Some(16), None]);
 /// let (block, mut buffer) = (Block { volume: 1, address: 5 }, [0xff; 1024]);
 /// session.read(&device, &tables, block, &mut buffer)?;
 /// assert_eq!(buffer, [0; 1024]);
@@ -54,8 +62,9 @@ use crate::{Geometry, Refusal, Tape};
 pub fn format(
     device: &mut [u8],
     geometry: Geometry,
-    count: usize,
+    volumes: usize,
     keys: &[u8],
+    counts: &[u64],
     tape: &mut Tape<'_>,
 ) -> Result<(), Refusal> {
     // SAFETY: each pointer goes with the length of what it was taken from, which is borrowed until
@@ -65,7 +74,8 @@ pub fn format(
         sys::hiwalgam_format(
             device.as_mut_ptr(), device.len(),
             &geometry, size_of::<sys::Geometry>(),
-            count, keys.as_ptr(), keys.len(),
+            volumes, keys.as_ptr(), keys.len(),
+            counts.as_ptr(), counts.len(),
             tape.bytes.as_ptr(), tape.bytes.len(), &mut tape.position,
         )
     };

@@ -8,8 +8,9 @@
 //! first [`Refusal`] that applies; the wrapper adds no test of its own. Everything is lent: no call
 //! keeps anything between two calls.
 //!
-//! [`format()`] makes a device, [`Session::open`] opens it with a key, and the session reads, writes and
-//! closes. Reading the image from a stick and storing it there is the caller's work.
+//! [`format()`] makes a device whose volumes have the lengths that it is told, [`Session::open`] opens it
+//! with a key, and the session tells how long each volume is, reads, writes and closes. Reading the
+//! image from a stick and storing it there is the caller's work.
 //!
 //! ```
 //! use hiwalgam::{Block, Change, Geometry, Refusal, Session, Tables, Tape};
@@ -37,7 +38,7 @@
 //! #     let geometry = Geometry { block_bytes: 1024, slice_blocks: 4, slices: 4 };
 //! #     let (mut device, key, text) = (vec![0; geometry.device_length()], [7; 32], [3; 1024]);
 //! #     let random = vec![0x5a; geometry.format_tape_length(1)];
-//! #     hiwalgam::format(&mut device, geometry, 1, &key, &mut Tape::new(&random))?;
+//! #     hiwalgam::format(&mut device, geometry, 1, &key, &[4], &mut Tape::new(&random))?;
 //! #     assert_eq!(keep(&mut device, &[8; 32], &random, &text), Err(Refusal::NoCell));
 //! #     keep(&mut device, &key, &random, &text)
 //! # }

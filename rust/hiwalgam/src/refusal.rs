@@ -9,7 +9,9 @@ use crate::sys;
 #[derive(Clone, Copy, PartialEq, Eq, Hash, Debug)]
 #[repr(u8)]
 pub enum Refusal {
-    /// The size of blocks, the blocks in a slice or the number of slices is not allowed.
+    /// The size of blocks, the blocks in a slice or the number of slices is not allowed. At a
+    /// formatting also a count of logical slices that is not 1 to P, or another number of counts than
+    /// volumes.
     BadGeometry = 1,
     /// The device is not as long as the geometry says.
     DeviceLength = 2,
@@ -23,15 +25,17 @@ pub enum Refusal {
     NoCell = 6,
     /// The tag of a header that is needed is wrong.
     HeaderTag = 7,
-    /// A header was made for another geometry.
+    /// A header's count of logical slices is not 1 to P, or its blocks in a slice are others than the
+    /// geometry's.
     HeaderGeometry = 8,
-    /// A map entry is neither a slice nor the mark of an unmapped one.
+    /// A map entry that names no slice, or stands at or past the volume's count of logical slices, is
+    /// not the mark of an unmapped one.
     BadEntry = 9,
     /// A slice is mapped twice.
     SliceTwice = 10,
     /// The volume is above the opened one.
     VolumeAbove = 11,
-    /// The block is past the end of the volume.
+    /// The block is past the end of the volume: its address is N x S or more.
     AddressAbove = 12,
     /// A buffer, text, IV, tag, associated data or struct is not as long as it has to be.
     WrongLength = 13,
@@ -39,7 +43,8 @@ pub enum Refusal {
     MalformedLine = 14,
     /// The tag is wrong.
     TagDiffers = 15,
-    /// The session is closed, or holds numbers that are not allowed.
+    /// The session is closed, or holds numbers that are not allowed, among them the counts of the open
+    /// volumes.
     NotOpen = 20,
     /// The tape has not as many bytes left as the call needs.
     TapeShort = 21,
@@ -89,15 +94,17 @@ impl Refusal {
 
     fn reason(self) -> &'static str {
         match self {
-            Refusal::BadGeometry => "the geometry is not allowed",
+            Refusal::BadGeometry => "the geometry, a count of logical slices or the number of counts is not allowed",
             Refusal::DeviceLength => "the device is not as long as the geometry says",
             Refusal::KeyLength => "a key is not 32 bytes",
             Refusal::TableLength => "the map table or the owner table has a wrong length",
             Refusal::BadPermutation => "the permutation does not name each slice once",
             Refusal::NoCell => "the key opens no key cell",
             Refusal::HeaderTag => "the tag of a header is wrong",
-            Refusal::HeaderGeometry => "a header was made for another geometry",
-            Refusal::BadEntry => "a map entry is neither a slice nor unmapped",
+            Refusal::HeaderGeometry => "the numbers in a header do not fit the geometry",
+            Refusal::BadEntry => {
+                "a map entry is no slice, or past the volume's end, and not unmapped"
+            }
             Refusal::SliceTwice => "a slice is mapped twice",
             Refusal::VolumeAbove => "the volume is above the opened one",
             Refusal::AddressAbove => "the block is past the end of the volume",

@@ -19,6 +19,8 @@ use crate::{Block, Geometry, Refusal, Tables, Tape, WriteRefused, Written};
 /// A session has a start place: no slice at an earlier place of the permutation is free, and claims
 /// look from there on. So the probes of all its writes, those refused by 5 or 21 left out, add up to P
 /// at most.
+///
+/// It also has the length of each open volume, as the volume was formatted: [`Session::blocks`].
 #[derive(PartialEq, Eq, Debug)]
 #[must_use = "what a session claims is lost without a close"]
 pub struct Session(sys::Session);
@@ -28,7 +30,8 @@ impl Session {
     /// permutation names each slice once; claims take the first free one in its order. Its place is
     /// the start place, which is P where no slice is free.
     ///
-    /// Refused by 1, 2, 3, 4, 5 (the tables stay), 6, 7, 8, 9, 10 (they become empty).
+    /// Refused by 1, 2, 3, 4, 5 (the tables stay), 6, 7, 8, 9, 10 (they become empty). A 9 is also an
+    /// entry that is mapped at or past its volume's N.
     pub fn open<M, O>(
         device: &[u8],
         geometry: Geometry,
@@ -59,7 +62,8 @@ impl Session {
         Ok(Session(session))
     }
 
-    /// Reads a block into `buffer`, which has B bytes. A block that was never written is zeros.
+    /// Reads a block into `buffer`, which has B bytes. A block that was never written is zeros. The
+    /// volume ends before block [`blocks`](Session::blocks).
     ///
     /// Refused by 20, 2, 4, 11, 12, 13, 9; the buffer stays then.
     pub fn read<M, O>(
@@ -162,7 +166,7 @@ impl Session {
 
     /// Closes the session: the maps of the open volumes go to the device, with 16 bytes of the tape
     /// for each map block. The tables are empty afterwards, and the session is closed, without keys;
-    /// geometry, volume and start place stay.
+    /// geometry, volume, start place and counts stay.
     ///
     /// Refused by 20, 2, 4, 9, 21. Nothing changes then, and the close can be tried again.
     pub fn close<M, O>(
@@ -204,6 +208,41 @@ impl Session {
     /// finds and a close leave it.
     pub fn start_place(&self) -> u64 {
         self.0.start_place
+    }
+
+    /// N, the logical slices of an open volume, from 1 to P: the most slices of the device that it can
+    /// hold. `None` for a volume above the opened one. A close leaves it.
+    pub fn slices(&self, volume: u64) -> Option<u64> {
+        let index = usize::try_from(volume).ok()?;
+        let count = self.0.counts.get(index).copied();
+        count.filter(|_| volume <= self.0.volume)
+    }
+
+    /// The blocks of an open volume, N x S: what a file system can lay out. They are addressed from 0.
+    /// `None` for a volume above the opened one. A close leaves them.
+    ///
+    /// A session [from a record](Session::from_record), whose numbers can be any, also gives `None`
+    /// where 64 bits do not hold the product; each of its calls is then refused.
+    ///
+    /// ```
+    /// use hiwalgam::{Geometry, Refusal, Session, Tables, Tape};
+    ///
+    /// # let random = vec![0x5a; 60_000];
+    /// let geometry = Geometry { block_bytes: 1024, slice_blocks: 4, slices: 4 };
+    /// let (keys, counts) = ([[7; 32], [8; 32]], [3, 1]);
+    /// let mut device = vec![0; geometry.device_length()];
+    /// hiwalgam::format(&mut device, geometry, 2, keys.as_flattened(), &counts, &mut Tape::new(&random))?;
+    ///
+    /// let mut tables = Tables::new(geometry);
+    /// let session = Session::open(&device, geometry, &keys[1], &mut tables, &[2, 0, 3, 1])?;
+    /// assert_eq!((session.slices(0), session.blocks(0)), (Some(3), Some(12)));
+    /// assert_eq!((session.slices(1), session.blocks(1)), (Some(1), Some(4)));
+    /// assert_eq!((session.slices(2), session.blocks(2)), (None, None));
+    /// # Ok::<(), Refusal>(())
+    /// ```
+    pub fn blocks(&self, volume: u64) -> Option<u64> {
+        let slices = self.slices(volume)?;
+        slices.checked_mul(self.0.geometry.slice_blocks)
     }
 
     /// Whether the session is open: it was not closed.

@@ -10,7 +10,8 @@
 //!
 //! - Each pointer is followed by a length: of a list the number of its elements, of a struct its
 //!   size. The pointer is valid for that length, and what is not const may be written.
-//! - `u32` and `usize` are aligned. Bytes and structs may stand anywhere.
+//! - Lists of `u32` and `u64`, and the position of the tape, are aligned. Bytes and structs may stand
+//!   anywhere.
 //! - Null may be passed with length 0. The position of the tape is never null.
 //! - The buffers of one call do not overlap, but for those that are const.
 
@@ -46,7 +47,7 @@ pub const POSITION_LIMIT: u64 = 1_099_511_627_776;
 /// The size of [`Geometry`].
 pub const GEOMETRY_BYTES: usize = 24;
 /// The size of [`Session`].
-pub const SESSION_BYTES: usize = 528;
+pub const SESSION_BYTES: usize = 648;
 /// The size of [`Written`].
 pub const WRITTEN_BYTES: usize = 24;
 
@@ -80,6 +81,8 @@ pub struct Session {
     pub start_place: u64,
     /// The data keys of volumes 0 to 14, end to end; zeros above the opened volume.
     pub keys: [u8; VOLUMES * KEY_BYTES],
+    /// N, the logical slices, of volumes 0 to 14, each 1 to P; 0 above the opened volume.
+    pub counts: [u64; VOLUMES],
 }
 
 impl Session {
@@ -94,6 +97,7 @@ impl Session {
         open: 0,
         start_place: 0,
         keys: [0; VOLUMES * KEY_BYTES],
+        counts: [0; VOLUMES],
     };
 }
 
@@ -104,6 +108,7 @@ impl fmt::Debug for Session {
             .field("volume", &self.volume)
             .field("open", &self.open)
             .field("start_place", &self.start_place)
+            .field("counts", &self.counts)
             .finish_non_exhaustive()
     }
 }
@@ -122,19 +127,22 @@ pub struct Written {
 
 #[rustfmt::skip]
 extern "C" {
-    /// Makes a blank device from a tape, whose volumes 0 to `i` key `i` opens. `keys` are `count`
-    /// keys of 32 bytes, end to end.
+    /// Makes a blank device from a tape, whose volumes 0 to `i` key `i` opens. `keys` has a key of 32
+    /// bytes for each of the volumes, end to end, and `counts` the N of each, 1 to P.
     ///
-    /// Refused by 13 (geometry of another size), 1, 2, 23, 3, 21, 24.
+    /// Refused by 13 (geometry of another size), 1 (also for a count, or the number of counts), 2, 23,
+    /// 3, 21, 24.
     pub fn hiwalgam_format(
         device: *mut u8, device_length: usize,
         geometry: *const Geometry, geometry_size: usize,
-        count: usize, keys: *const u8, keys_length: usize,
+        volumes: usize, keys: *const u8, keys_length: usize,
+        counts: *const u64, counts_length: usize,
         tape: *const u8, tape_length: usize, position: *mut usize,
     ) -> u8;
 
     /// Opens a device with a key: the lowest volume whose cell the key opens, and all below it. The
-    /// session's start place is the first place of the permutation whose slice is free, or P.
+    /// session's start place is the first place of the permutation whose slice is free, or P, and its
+    /// counts are those of the headers.
     ///
     /// Refused by 13 (geometry or session of another size; everything stays), 1, 2, 3, 4, 5 (the
     /// tables stay), 6, 7, 8, 9, 10 (entries become [`UNMAPPED`], owners 0). A refused opening but
@@ -149,7 +157,7 @@ extern "C" {
         session: *mut Session, session_size: usize,
     ) -> u8;
 
-    /// Reads a block of an open volume into `buffer`, which has B bytes.
+    /// Reads a block of an open volume, which has N x S blocks, into `buffer`, which has B bytes.
     ///
     /// Refused by 13 (session of another size), 20, 2, 4, 11, 12, 13 (buffer), 9.
     pub fn hiwalgam_read(
@@ -191,7 +199,7 @@ extern "C" {
     ) -> u8;
 
     /// Closes a session: the maps of the open volumes go to the device, and the tables and the keys
-    /// are wiped.
+    /// are wiped; geometry, volume, start place and counts stay.
     ///
     /// Refused by 13 (session of another size), 20, 2, 4, 9, 21.
     pub fn hiwalgam_close(

@@ -20,14 +20,14 @@ impl Geometry {
         length.unwrap_or(0) as usize
     }
 
-    /// The bytes of the tape that [`format`](crate::format()) takes with `count` keys: the device's,
-    /// and 88 + 16 x m for each key; 0 where B, S or P is not allowed.
-    pub fn format_tape_length(self, count: usize) -> usize {
-        // More keys are refused before the tape is looked at.
-        let count = count.min(VOLUMES);
+    /// The bytes of the tape that [`format`](crate::format()) takes for so many volumes, whatever their
+    /// counts: the device's, and 88 + 16 x m for each volume; 0 where B, S or P is not allowed.
+    pub fn format_tape_length(self, volumes: usize) -> usize {
+        // More volumes are refused before the tape is looked at.
+        let volumes = volumes.min(VOLUMES);
         let volume = |m| 2 * KEY_BYTES + 2 * GCM_IV_BYTES + IV_BYTES * m as usize;
-        let volumes = self.map_blocks().map(|m| count * volume(m));
-        self.device_length() + volumes.unwrap_or(0)
+        let taken = self.map_blocks().map(|m| volumes * volume(m));
+        self.device_length() + taken.unwrap_or(0)
     }
 
     /// m, the map blocks of each volume. None where B, S or P is not allowed.
@@ -51,7 +51,7 @@ impl Geometry {
 pub struct Block {
     /// The volume, 0 to 14.
     pub volume: u64,
-    /// The number of the block in the volume, from 0 on.
+    /// The number of the block in the volume, from 0 to N x S - 1.
     pub address: u64,
 }
 
@@ -61,7 +61,8 @@ pub struct Block {
 /// They own their memory, or borrow it: `Tables { maps: &mut maps[..], owners: &mut owners[..] }`.
 #[derive(Clone, PartialEq, Eq, Debug)]
 pub struct Tables<M = Vec<u32>, O = Vec<u8>> {
-    /// 15 x P entries. Entry `l` of volume `v` stands at `v * P + l`: a slice, or [`UNMAPPED`].
+    /// 15 x P entries. Entry `l` of volume `v` stands at `v * P + l`: a slice, or [`UNMAPPED`]. Those
+    /// from the volume's N on are unmapped.
     pub maps: M,
     /// P bytes: 0 for a slice that is free, and `v + 1` for one that volume `v` holds.
     pub owners: O,

@@ -19,33 +19,38 @@ struct VolumeKeys<'a> {
     vek: &'a [u8; KEY],
 }
 
-/// Makes a blank stick: key `i` opens the volumes 0 to `i`, in which nothing is mapped. `keys` are
-/// `count` keys end to end. A refusal leaves every byte of the device, and the tape's position.
+/// Makes a blank stick: key `i` opens the volumes 0 to `i`, in which nothing is mapped. `keys` has a key
+/// for each of the volumes, end to end, and `counts` its number of logical slices (N). A refusal leaves
+/// every byte of the device, and the tape's position.
 pub fn format(
     device: &mut [u8],
     [b, s, p]: [usize; 3],
-    count: usize,
+    volumes: usize,
     keys: &[u8],
+    counts: &[usize],
     tape: &mut Tape,
 ) -> Result<(), Refusal> {
     let geometry = Geometry::new(b, s, p).ok_or(Refusal::BadGeometry)?;
+    if counts.len() != volumes || counts.iter().any(|&count| !geometry.allows_count(count)) {
+        return Err(Refusal::BadGeometry);
+    }
     if device.len() != geometry.device_len() {
         return Err(Refusal::DeviceLength);
     }
-    if !(1..=VOLUMES).contains(&count) {
+    if !(1..=VOLUMES).contains(&volumes) {
         return Err(Refusal::KeyCount);
     }
-    if keys.len() != KEY * count {
+    if keys.len() != KEY * volumes {
         return Err(Refusal::KeyLength);
     }
     let volume = 2 * KEY + 2 * GCM_IV + IV * geometry.map_blocks();
-    tape.check(device.len() + count * volume)?;
+    tape.check(device.len() + volumes * volume)?;
 
     let (keys, _) = keys.as_chunks();
     // The tape itself stays until nothing can be refused any more.
     let mut draws = tape.clone();
     let filling = draws.draw(device.len());
-    let volumes: Vec<VolumeKeys> = (0..count).map(|_| draw_keys(&mut draws)).collect();
+    let volumes: Vec<VolumeKeys> = (0..volumes).map(|_| draw_keys(&mut draws)).collect();
     let cells = seal_cells(keys, &volumes, &mut draws);
     if opens_lower_cell(keys, &cells) {
         return Err(Refusal::LowerCell);
@@ -55,8 +60,8 @@ pub fn format(
     for (i, cell) in cells.iter().enumerate() {
         device[geometry.cell(i)].copy_from_slice(cell);
     }
-    for i in 0..count {
-        write_header(geometry, &volumes, i, &mut draws, device);
+    for (i, &count) in counts.iter().enumerate() {
+        write_header(geometry, &volumes, i, count, &mut draws, device);
     }
     *tape = draws;
     Ok(())
@@ -101,6 +106,7 @@ fn write_header(
     geometry: Geometry,
     volumes: &[VolumeKeys],
     i: usize,
+    count: usize,
     tape: &mut Tape,
     device: &mut [u8],
 ) {
@@ -109,7 +115,7 @@ fn write_header(
         0 => &[0; KEY],
         _ => volumes[i - 1].vmk,
     };
-    let numbers = [geometry.p, geometry.s].map(|number| (number as u32).to_be_bytes());
+    let numbers = [count, geometry.s].map(|number| (number as u32).to_be_bytes());
     let text = [&vek[..], below, numbers.as_flattened()].concat();
     let header = &mut device[geometry.header(i)];
     seal(tape, vmk, HEADER_AAD + i as u8, &text, header);

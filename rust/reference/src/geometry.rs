@@ -50,9 +50,14 @@ impl Geometry {
         self.b * (self.header_blocks() + self.p * (self.s + 1))
     }
 
-    /// The addresses of a volume.
-    pub fn addresses(self) -> usize {
-        self.p * self.s
+    /// Whether a volume can have this count of logical slices (N).
+    pub fn allows_count(self, count: usize) -> bool {
+        (1..=self.p).contains(&count)
+    }
+
+    /// The blocks of a volume with a count of logical slices that is allowed.
+    pub fn blocks(self, count: usize) -> usize {
+        count * self.s
     }
 
     /// The bytes of key cell `i`.

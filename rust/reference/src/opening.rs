@@ -31,7 +31,7 @@ pub fn open(
 
     tables.clear();
     let (k, vmk) = open_cell(geometry, device, key).ok_or(Refusal::NoCell)?;
-    let keys = open_headers(geometry, device, k, vmk)?;
+    let (keys, counts) = open_headers(geometry, device, k, vmk)?;
     let mut session = Session {
         b,
         s,
@@ -39,6 +39,7 @@ pub fn open(
         k,
         start_place: 0,
         keys,
+        counts,
         opened: true,
     };
     for volume in 0..=k {
@@ -69,25 +70,27 @@ fn open_cell(geometry: Geometry, device: &[u8], key: &[u8; KEY]) -> Option<(usiz
     })
 }
 
-/// Follows the chain from header k down to header 0 and returns the data keys.
+/// Follows the chain from header k down to header 0 and returns the data keys and the counts of
+/// logical slices.
 fn open_headers(
     geometry: Geometry,
     device: &[u8],
     k: usize,
     mut vmk: [u8; KEY],
-) -> Result<[u8; KEYS], Refusal> {
-    let mut keys = [0; KEYS];
+) -> Result<([u8; KEYS], [usize; VOLUMES]), Refusal> {
+    let (mut keys, mut counts) = ([0; KEYS], [0; VOLUMES]);
     for i in (0..=k).rev() {
         let header = &device[geometry.header(i)];
         let text: [u8; 72] = gcm_open(&vmk, 16 + i as u8, header).ok_or(Refusal::HeaderTag)?;
         let number = |at: usize| u32::from_be_bytes(text[at..at + 4].try_into().unwrap()) as usize;
-        if number(64) != geometry.p || number(68) != geometry.s {
+        counts[i] = number(64);
+        if !geometry.allows_count(counts[i]) || number(68) != geometry.s {
             return Err(Refusal::HeaderGeometry);
         }
         keys[KEY * i..KEY * (i + 1)].copy_from_slice(&text[..KEY]);
         vmk.copy_from_slice(&text[KEY..2 * KEY]);
     }
-    Ok(keys)
+    Ok((keys, counts))
 }
 
 /// Reads the map of one volume into the tables, entry by entry, until a bad one.
@@ -110,6 +113,9 @@ fn read_map(
     for (logical, &entry) in entries[..geometry.p].iter().enumerate() {
         if entry == UNMAPPED {
             continue;
+        }
+        if logical >= session.counts[volume] {
+            return Err(Refusal::BadEntry);
         }
         let owner = tables.owners.get_mut(entry as usize);
         let owner = owner.ok_or(Refusal::BadEntry)?;

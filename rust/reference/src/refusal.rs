@@ -4,7 +4,8 @@
 #[derive(Clone, Copy, PartialEq, Eq, Debug)]
 #[repr(u8)]
 pub enum Refusal {
-    /// B, S or P is not allowed.
+    /// B, S or P is not allowed; at a formatting also a count of logical slices, or another number of
+    /// counts than keys.
     BadGeometry = 1,
     /// The device is not as long as its geometry says.
     DeviceLength = 2,
@@ -18,15 +19,15 @@ pub enum Refusal {
     NoCell = 6,
     /// The tag of a needed header is wrong.
     HeaderTag = 7,
-    /// A header's P or S differs from the geometry.
+    /// A header's N is 0 or above P, or its S differs from the geometry.
     HeaderGeometry = 8,
-    /// A map entry is neither unmapped nor below P.
+    /// A map entry is neither unmapped nor below P, or it is at or past N and not unmapped.
     BadEntry = 9,
     /// A slice is mapped twice.
     SliceTwice = 10,
     /// The volume is above k.
     VolumeAbove = 11,
-    /// The address is P x S or more.
+    /// The address is N x S or more.
     AddressAbove = 12,
     /// Another length, or the position, is outside its limits.
     WrongLength = 13,
@@ -34,8 +35,8 @@ pub enum Refusal {
     MalformedLine = 14,
     /// The authentication tag differs.
     TagDiffers = 15,
-    /// The session is closed, its geometry is not allowed, its k is above 14, or its start place above
-    /// P.
+    /// The session is closed, its geometry is not allowed, its k is above 14, its start place above P,
+    /// or an N that it holds of volumes 0 to k not allowed.
     NotOpen = 20,
     /// The tape has fewer bytes left than the call needs, or the position is past its end.
     TapeShort = 21,

@@ -33,7 +33,7 @@ fn locate(
     if target.volume > session.k {
         return Err(Refusal::VolumeAbove);
     }
-    if target.address >= geometry.addresses() {
+    if target.address >= geometry.blocks(session.counts[target.volume]) {
         return Err(Refusal::AddressAbove);
     }
     let logical = target.address / geometry.s;
@@ -185,8 +185,9 @@ pub fn close(
 ) -> Result<(), Refusal> {
     let geometry = check_lent(device, tables.maps, tables.owners, session)?;
     let volumes = session.k + 1;
-    for &entry in &tables.maps[..volumes * geometry.p] {
-        mapped(geometry, entry)?;
+    let rows = tables.maps.chunks(geometry.p);
+    for (row, &count) in rows.zip(&session.counts[..volumes]) {
+        check_row(geometry, row, count)?;
     }
     tape.check(IV * geometry.map_blocks() * volumes)?;
 
@@ -201,6 +202,17 @@ pub fn close(
     tables.clear();
     session.keys = [0; KEYS];
     session.opened = false;
+    Ok(())
+}
+
+/// Refuses a volume's row of the map table where an entry is no slice, or is mapped at or past the
+/// volume's count.
+fn check_row(geometry: Geometry, row: &[u32], count: usize) -> Result<(), Refusal> {
+    for (logical, &entry) in row.iter().enumerate() {
+        if mapped(geometry, entry)?.is_some() && logical >= count {
+            return Err(Refusal::BadEntry);
+        }
+    }
     Ok(())
 }
 

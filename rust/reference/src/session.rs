@@ -25,6 +25,8 @@ pub struct Session {
     pub start_place: usize,
     /// The data keys (VEK) of volumes 0 to 14.
     pub keys: [u8; KEYS],
+    /// N, the logical slices of volumes 0 to k; 0 above.
+    pub counts: [usize; VOLUMES],
     pub opened: bool,
 }
 
@@ -32,7 +34,10 @@ impl Session {
     /// The geometry of a session that is open and can serve.
     pub fn geometry(&self) -> Option<Geometry> {
         let geometry = Geometry::new(self.b, self.s, self.p)?;
-        let allowed = self.opened && self.k < VOLUMES && self.start_place <= self.p;
+        let counts = self.counts.get(..=self.k)?;
+        let allowed = self.opened
+            && self.start_place <= self.p
+            && counts.iter().all(|&count| geometry.allows_count(count));
         allowed.then_some(geometry)
     }
 

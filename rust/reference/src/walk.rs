@@ -130,7 +130,7 @@ impl Walk {
         if volume >= VOLUMES {
             return Err(Refusal::VolumeAbove);
         }
-        if address >= geometry.addresses() {
+        if address >= geometry.blocks(geometry.p) {
             return Err(Refusal::AddressAbove);
         }
 

@@ -368,13 +368,15 @@ impl Blank {
 
     fn format(&mut self) {
         let (device, tape) = (&mut self.device, &mut Tape::new(&self.tape));
-        hiwalgam::format(device, self.geometry, VOLUMES, &self.keys, tape).unwrap();
+        let counts = &[self.geometry.slices; VOLUMES];
+        hiwalgam::format(device, self.geometry, VOLUMES, &self.keys, counts, tape).unwrap();
     }
 
     fn format_by_reference(&mut self) {
         let (device, tape) = (&mut self.device, &mut reference_tape(&self.tape));
         let numbers = reference_numbers(self.geometry);
-        formatting::format(device, numbers, VOLUMES, &self.keys, tape).unwrap();
+        let counts = &[self.geometry.slices as usize; VOLUMES];
+        formatting::format(device, numbers, VOLUMES, &self.keys, counts, tape).unwrap();
     }
 
     /// Copies as many bytes as the device has.

@@ -81,6 +81,17 @@ impl Random {
         Guarded::new(&bytes)
     }
 
+    /// A volume's count of logical slices on a device of `p` slices: 1, all, or any.
+    pub fn count(&mut self, p: usize) -> usize {
+        let any = 1 + self.below(p);
+        self.pick(&[1, p, any, any])
+    }
+
+    /// Counts for so many volumes.
+    pub fn counts(&mut self, p: usize, volumes: usize) -> Vec<usize> {
+        (0..volumes).map(|_| self.count(p)).collect()
+    }
+
     /// The numbers below `p` in a random order.
     pub fn permutation(&mut self, p: usize) -> Vec<u32> {
         let mut numbers: Vec<u32> = (0..p as u32).collect();

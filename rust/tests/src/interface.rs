@@ -34,6 +34,8 @@ pub struct Session {
     pub start_place: usize,
     /// The data keys (VEK) of volumes 0 to 14.
     pub keys: [u8; KEYS],
+    /// N, the logical slices of volumes 0 to k; 0 above.
+    pub counts: [usize; VOLUMES],
 }
 
 impl Session {
@@ -46,6 +48,7 @@ impl Session {
         open: 0,
         start_place: 0,
         keys: [0; KEYS],
+        counts: [0; VOLUMES],
     };
 }
 
@@ -136,13 +139,15 @@ pub trait Ciphers: Debug {
 
 /// The six calls of one implementation of the engine.
 pub trait Engine: Debug {
-    /// `numbers` are B, S and P, and `keys` is to hold `count` keys end to end.
+    /// `numbers` are B, S and P. For each of the volumes `keys` is to hold a key, end to end, and
+    /// `counts` its N.
     fn format(
         &self,
         device: &mut [u8],
         numbers: [usize; 3],
-        count: usize,
+        volumes: usize,
         keys: &[u8],
+        counts: &[usize],
         tape: &mut Tape,
     ) -> Answer;
 

@@ -19,7 +19,7 @@ pub struct Volume {
     pub vek: [u8; KEY],
     /// P entries, which need not be right.
     pub map: Vec<u32>,
-    /// P and S as the header gives them.
+    /// N and S as the header gives them.
     pub numbers: [u32; 2],
 }
 
@@ -34,48 +34,72 @@ pub struct Stick {
 }
 
 impl Volume {
-    /// A volume with random keys and nothing mapped.
+    /// A volume with random keys, as large as the stick, with nothing mapped.
     pub fn new(random: &mut Random, geometry: Geometry) -> Self {
+        let keys = [(); 3].map(|()| random.array());
+        Volume::with_keys(geometry, keys, geometry.p)
+    }
+
+    /// A volume with its key, VMK and VEK and a count of logical slices, with nothing mapped.
+    fn with_keys(geometry: Geometry, [key, vmk, vek]: [[u8; KEY]; 3], count: usize) -> Self {
         Volume {
-            key: random.array(),
-            vmk: random.array(),
-            vek: random.array(),
+            key,
+            vmk,
+            vek,
             map: vec![UNMAPPED; geometry.p],
-            numbers: [geometry.p as u32, geometry.s as u32],
+            numbers: [count as u32, geometry.s as u32],
         }
+    }
+
+    /// The same volume with another count of logical slices.
+    pub fn with_count(mut self, count: usize) -> Self {
+        self.numbers[0] = count as u32;
+        self
+    }
+
+    /// N, the logical slices of the volume.
+    pub fn count(&self) -> usize {
+        self.numbers[0] as usize
     }
 }
 
 /// The tape bytes that a formatting takes: the device's, and for each volume VMK and VEK, the IVs of
 /// cell and header, and those of the map blocks.
-pub fn format_need(geometry: Geometry, count: usize) -> usize {
-    geometry.device_len() + count * (32 + 32 + 12 + 12 + IV * geometry.map_blocks())
+pub fn format_need(geometry: Geometry, volumes: usize) -> usize {
+    geometry.device_len() + volumes * (32 + 32 + 12 + 12 + IV * geometry.map_blocks())
 }
 
 impl Stick {
-    /// A blank stick with `count` volumes, formatted by the reference.
-    pub fn blank(random: &mut Random, geometry: Geometry, count: usize) -> Self {
-        let Geometry { b, s, p } = geometry;
-        let (mut device, keys) = (vec![0; geometry.device_len()], random.bytes(KEY * count));
-        let mut tape = vec![0; format_need(geometry, count)];
+    /// A blank stick with so many volumes, each as large as the stick, formatted by the reference.
+    pub fn blank(random: &mut Random, geometry: Geometry, volumes: usize) -> Self {
+        Stick::blank_with(random, geometry, &vec![geometry.p; volumes])
+    }
+
+    /// A blank stick with a volume for each count of logical slices.
+    pub fn blank_with(random: &mut Random, geometry: Geometry, counts: &[usize]) -> Self {
+        let (Geometry { b, s, p }, volumes) = (geometry, counts.len());
+        let (mut device, keys) = (vec![0; geometry.device_len()], random.bytes(KEY * volumes));
+        let mut tape = vec![0; format_need(geometry, volumes)];
         random.fill_ivs(&mut tape);
         let (bytes, position) = (&tape[..], 0);
         let lent = &mut Tape { bytes, position };
-        formatting::format(&mut device, [b, s, p], count, &keys, lent).unwrap();
-        Stick::formatted(geometry, &keys, &tape, &device)
+        formatting::format(&mut device, [b, s, p], volumes, &keys, counts, lent).unwrap();
+        Stick::formatted(geometry, &keys, counts, &tape, &device)
     }
 
-    /// The stick that a formatting with these keys and tape bytes left: VMK and VEK of each volume
-    /// are on the tape, behind as many bytes as the device has.
-    pub fn formatted(geometry: Geometry, keys: &[u8], tape: &[u8], device: &[u8]) -> Self {
+    /// The stick that a formatting with these keys, counts and tape bytes left: VMK and VEK of each
+    /// volume are on the tape, behind as many bytes as the device has.
+    pub fn formatted(
+        geometry: Geometry,
+        keys: &[u8],
+        counts: &[usize],
+        tape: &[u8],
+        device: &[u8],
+    ) -> Self {
         let ((keys, _), (drawn, _)) = (keys.as_chunks(), tape[device.len()..].as_chunks());
-        let volumes = keys.iter().zip(drawn.chunks_exact(2));
-        let volumes = volumes.map(|(&key, drawn)| Volume {
-            key,
-            vmk: drawn[0],
-            vek: drawn[1],
-            map: vec![UNMAPPED; geometry.p],
-            numbers: [geometry.p as u32, geometry.s as u32],
+        let volumes = keys.iter().zip(drawn.chunks_exact(2)).zip(counts);
+        let volumes = volumes.map(|((&key, drawn), &count)| {
+            Volume::with_keys(geometry, [key, drawn[0], drawn[1]], count)
         });
         Stick {
             geometry,
@@ -85,13 +109,26 @@ impl Stick {
         }
     }
 
-    /// A stick with `count` volumes, which map up to `mapped` slices at random, each once.
-    pub fn random(random: &mut Random, geometry: Geometry, count: usize, mapped: usize) -> Self {
-        let mut volumes: Vec<Volume> = (0..count).map(|_| Volume::new(random, geometry)).collect();
+    /// A stick with so many volumes, each as large as the stick, which map up to `mapped` slices at
+    /// random, each once.
+    pub fn random(random: &mut Random, geometry: Geometry, volumes: usize, mapped: usize) -> Self {
+        Stick::random_with(random, geometry, &vec![geometry.p; volumes], mapped)
+    }
+
+    /// The same with a volume for each count of logical slices.
+    pub fn random_with(
+        random: &mut Random,
+        geometry: Geometry,
+        counts: &[usize],
+        mapped: usize,
+    ) -> Self {
+        let volumes = counts.iter();
+        let volumes = volumes.map(|&count| Volume::new(random, geometry).with_count(count));
+        let mut volumes: Vec<Volume> = volumes.collect();
         for slice in random.permutation(geometry.p).into_iter().take(mapped) {
-            let volume = random.below(count);
-            let logical = random.below(geometry.p);
-            volumes[volume].map[logical] = slice;
+            let volume = &mut volumes[random.below(counts.len())];
+            let logical = random.below(volume.count());
+            volume.map[logical] = slice;
         }
         Stick::new(random, geometry, volumes)
     }
@@ -129,6 +166,11 @@ impl Stick {
     /// The keys that open the volumes, end to end.
     pub fn keys(&self) -> Vec<u8> {
         self.volumes.iter().flat_map(|volume| volume.key).collect()
+    }
+
+    /// N, the logical slices, of each volume.
+    pub fn counts(&self) -> Vec<usize> {
+        self.volumes.iter().map(Volume::count).collect()
     }
 
     /// Seals the VMK of volume `i` into its cell under `key`.

@@ -52,6 +52,16 @@ fn hexadecimal(word: &str) -> Vec<u8> {
         .collect()
 }
 
+/// Counts of logical slices in one word, as `5,1,7*13`; `-` is none.
+fn counts(word: &str) -> Vec<usize> {
+    let runs = word.split(',').filter(|&run| run != "-");
+    runs.flat_map(|run| {
+        let (count, times) = run.split_once('*').unwrap_or((run, "1"));
+        vec![number(count); number(times)]
+    })
+    .collect()
+}
+
 /// The number of an answer, as a transcript has it.
 fn shown(answer: Answer) -> u8 {
     answer.map_or_else(|refusal| refusal.number(), |()| 0)
@@ -131,7 +141,7 @@ impl State {
                 self.tape = Guarded::new(files.part(file, offset, length));
             }
             ["position", position] => self.position = number(position),
-            ["session", b, s, p, k, open, start_place, ref keys @ ..] => {
+            ["session", b, s, p, k, open, start_place, held, ref keys @ ..] => {
                 let [b, s, p, k, open, start_place] = [b, s, p, k, open, start_place].map(number);
                 assert!(open <= 1, "open or closed");
                 self.session = Session {
@@ -143,11 +153,14 @@ impl State {
                     start_place,
                     ..Session::CLOSED
                 };
+                let held = counts(held);
+                self.session.counts[..held.len()].copy_from_slice(&held);
                 assert!(keys.iter().all(|key| key.len() == 64), "keys");
                 let keys = hexadecimal(&keys.concat());
                 self.session.keys[..keys.len()].copy_from_slice(&keys);
             }
             ["start", place] => self.session.start_place = number(place),
+            ["count", volume, count] => self.session.counts[number(volume)] = number(count),
             _ => panic!("nothing that can be set"),
         }
     }
@@ -221,11 +234,14 @@ impl State {
                 }
             }
             ["close"] => shown(engine.close(device, &mut tables, &mut tape, session)).to_string(),
-            ["format", count, keys] => {
-                let (keys, numbers) = (Guarded::new(&hexadecimal(keys)), self.geometry);
-                let unchanged = keys.clone();
-                let answer = engine.format(device, numbers, number(count), &keys, &mut tape);
-                assert!(keys == unchanged, "the keys differ");
+            ["format", volumes, keys, handed] => {
+                let (volumes, numbers) = (number(volumes), self.geometry);
+                let keys = Guarded::new(&hexadecimal(keys));
+                let handed = Guarded::new(&counts(handed));
+                let unchanged = (keys.clone(), handed.clone());
+                let answer = engine.format(device, numbers, volumes, &keys, &handed, &mut tape);
+                assert!(keys == unchanged.0, "the keys differ");
+                assert!(handed == unchanged.1, "the counts differ");
                 shown(answer).to_string()
             }
             _ => panic!("no call"),

@@ -207,7 +207,7 @@ fn attribute(function: &str, number: usize, parameter: &str) -> Option<String> {
     let (_, of) = parameter.split_once(": ")?;
     let reads = ["hiwalgam_write", "hiwalgam_close"].contains(&function);
     let word = match of {
-        "*const u8" | "*const u32" => "IN",
+        "*const u8" | "*const u32" | "*const u64" => "IN",
         "*mut u8" | "*mut u32" if reads => "INOUT",
         "*mut u8" | "*mut u32" => "OUT",
         "*mut usize" => return Some(format!("HIWALGAM_NOT_NULL({number})")),
@@ -257,7 +257,7 @@ fn structs_are_the_headers() {
 }
 
 /// Where each field of a session stands in its bytes: the numbers of eight bytes each in the header's
-/// order, then the keys to the end.
+/// order, then the keys, then the counts to the end.
 #[test]
 fn fields_of_a_session_have_their_places() {
     let places = [
@@ -266,7 +266,8 @@ fn fields_of_a_session_have_their_places() {
         offset_of!(sys::Session, open),
         offset_of!(sys::Session, start_place),
         offset_of!(sys::Session, keys),
+        offset_of!(sys::Session, counts),
         size_of::<sys::Session>(),
     ];
-    assert_eq!(places, [0, 24, 32, 40, 48, 528]);
+    assert_eq!(places, [0, 24, 32, 40, 48, 528, 648]);
 }

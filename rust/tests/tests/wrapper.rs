@@ -13,7 +13,8 @@ const GEOMETRY: Geometry = Geometry {
     slices: 4,
 };
 
-/// An open session on no device that ever was, with keys of bytes 171.
+/// An open session on no device that ever was, with keys of bytes 171 and volumes of 3 and 4 logical
+/// slices.
 fn session() -> Session {
     Session::from_record(sys::Session {
         geometry: GEOMETRY,
@@ -21,6 +22,7 @@ fn session() -> Session {
         open: 1,
         start_place: 3,
         keys: [171; 480],
+        counts: [3, 4, 0, 0, 0, 0, 0, 0, 0, 0, 0, 0, 0, 0, 0],
     })
 }
 
@@ -77,6 +79,48 @@ fn a_record_passes_through() {
         let session = Session::from_record(record.clone());
         assert!(!session.is_open() && *session.record() == record);
     }
+}
+
+/// The length of each volume up to the opened one, open or closed, and of none above it, whatever the
+/// record holds there.
+#[test]
+fn lengths_of_volumes() {
+    let mut record = session().record().clone();
+    record.counts[2..].fill(7);
+    for open in [1, 0] {
+        record.open = open;
+        let session = Session::from_record(record.clone());
+        assert_eq!((session.slices(0), session.blocks(0)), (Some(3), Some(12)));
+        assert_eq!((session.slices(1), session.blocks(1)), (Some(4), Some(16)));
+        for volume in [2, 3, 14, 15, 16, 1 << 32, u64::MAX] {
+            assert_eq!(
+                (session.slices(volume), session.blocks(volume)),
+                (None, None)
+            );
+        }
+    }
+    // All volumes open, and then a volume that there is not.
+    for opened in [14, 15, u64::MAX] {
+        record.volume = opened;
+        let session = Session::from_record(record.clone());
+        assert_eq!(
+            (session.slices(14), session.blocks(14)),
+            (Some(7), Some(28))
+        );
+        for volume in [15, 16, 1 << 32, u64::MAX] {
+            assert_eq!(
+                (session.slices(volume), session.blocks(volume)),
+                (None, None)
+            );
+        }
+    }
+    // A product that 64 bits do not hold.
+    record.counts[0] = 1 << 62;
+    let session = Session::from_record(record);
+    assert_eq!(
+        (session.slices(0), session.blocks(0)),
+        (Some(1 << 62), None)
+    );
 }
 
 /// Tables of the lengths that the engine asks for, and some for every other geometry.

@@ -10,11 +10,16 @@ use hiwalgam::Refusal;
 
 use crate::inputs::Guarded;
 use crate::interface::{
-    Answer, Ciphers, Engine, Session, Tables, Tape, Target, Written, KEYS, SERVED,
+    Answer, Ciphers, Engine, Session, Tables, Tape, Target, Written, KEYS, SERVED, VOLUMES,
 };
 
 #[derive(Debug)]
 pub struct CFunctions;
+
+/// Where the keys and the counts of a session begin in its bytes.
+pub const KEYS_START: usize = 48;
+pub const COUNTS_START: usize = KEYS_START + KEYS;
+const _: () = assert!(COUNTS_START + 8 * VOLUMES == SESSION_BYTES);
 
 /// The memory of a struct, and the size that is handed over with its address. The address is null
 /// where there is no memory.
@@ -60,7 +65,9 @@ impl Record {
             ..
         } = session;
         let numbers = [b, s, p, k, open, start_place].map(usize::to_le_bytes);
-        Record::new(&[numbers.as_flattened(), &session.keys].concat())
+        let counts = session.counts.map(usize::to_le_bytes);
+        let parts = [numbers.as_flattened(), &session.keys, counts.as_flattened()];
+        Record::new(&parts.concat())
     }
 
     pub fn bytes(&self) -> &[u8] {
@@ -71,15 +78,15 @@ impl Record {
         self.size
     }
 
-    /// The numbers with which the struct begins.
-    fn numbers<const N: usize>(&self) -> [usize; N] {
+    /// The numbers that stand from a byte on.
+    fn numbers<const N: usize>(&self, start: usize) -> [usize; N] {
         assert!(self.bytes.is_intact(), "the guards of a struct");
-        let (numbers, _) = self.bytes.as_chunks();
+        let (numbers, _) = self.bytes[start..].as_chunks();
         std::array::from_fn(|i| usize::from_le_bytes(numbers[i]))
     }
 
     fn to_session(&self) -> Session {
-        let [b, s, p, k, open, start_place] = self.numbers();
+        let [b, s, p, k, open, start_place] = self.numbers(0);
         Session {
             b,
             s,
@@ -87,12 +94,13 @@ impl Record {
             k,
             open,
             start_place,
-            keys: self.bytes[SESSION_BYTES - KEYS..].try_into().unwrap(),
+            keys: self.bytes[KEYS_START..COUNTS_START].try_into().unwrap(),
+            counts: self.numbers(COUNTS_START),
         }
     }
 
     fn to_written(&self, answer: Answer) -> Written {
-        let [claimed, slice, probes] = self.numbers();
+        let [claimed, slice, probes] = self.numbers(0);
         Written {
             answer,
             claimed,
@@ -140,8 +148,9 @@ pub fn answer(number: u8) -> Answer {
 pub fn format(
     device: &mut [u8],
     geometry: &Record,
-    count: usize,
+    volumes: usize,
     keys: &[u8],
+    counts: &[usize],
     tape: &mut Tape,
 ) -> Answer {
     let mut position = Guarded::new(&[tape.position]);
@@ -150,7 +159,8 @@ pub fn format(
         sys::hiwalgam_format(
             start_mut(device), device.len(),
             geometry.start(), geometry.size,
-            count, start(keys), keys.len(),
+            volumes, start(keys), keys.len(),
+            start(counts).cast(), counts.len(),
             start(tape.bytes), tape.bytes.len(), start_mut(&mut position),
         )
     };
@@ -289,12 +299,13 @@ impl Engine for CFunctions {
         &self,
         device: &mut [u8],
         numbers: [usize; 3],
-        count: usize,
+        volumes: usize,
         keys: &[u8],
+        counts: &[usize],
         tape: &mut Tape,
     ) -> Answer {
         let geometry = Record::geometry(numbers);
-        let answer = format(device, &geometry, count, keys, tape);
+        let answer = format(device, &geometry, volumes, keys, counts, tape);
         assert!(
             geometry == Record::geometry(numbers),
             "the geometry of a formatting"

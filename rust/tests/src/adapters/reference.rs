@@ -30,6 +30,7 @@ fn session_of(session: &Session) -> session::Session {
         k,
         start_place,
         keys: session.keys,
+        counts: session.counts,
         opened: session.open == 1,
     }
 }
@@ -49,6 +50,7 @@ fn hand_back(after: &session::Session, session: &mut Session) {
         open,
         start_place: after.start_place,
         keys: after.keys,
+        counts: after.counts,
     };
 }
 
@@ -125,12 +127,13 @@ impl Engine for Reference {
         &self,
         device: &mut [u8],
         numbers: [usize; 3],
-        count: usize,
+        volumes: usize,
         keys: &[u8],
+        counts: &[usize],
         tape: &mut Tape,
     ) -> Answer {
         let answer = with_tape(tape, |tape| {
-            formatting::format(device, numbers, count, keys, tape)
+            formatting::format(device, numbers, volumes, keys, counts, tape)
         });
         answer.map_err(same)
     }

@@ -22,6 +22,7 @@ fn session_of(session: &Session) -> hiwalgam::Session {
         open: session.open as u64,
         start_place: session.start_place as u64,
         keys: session.keys,
+        counts: session.counts.map(|count| count as u64),
     })
 }
 
@@ -36,6 +37,7 @@ fn hand_back(after: &hiwalgam::Session, session: &mut Session) {
         open: record.open as usize,
         start_place: record.start_place as usize,
         keys: record.keys,
+        counts: record.counts.map(|count| count as usize),
     };
 }
 
@@ -123,13 +125,15 @@ impl Engine for Wrapper {
         &self,
         device: &mut [u8],
         numbers: [usize; 3],
-        count: usize,
+        volumes: usize,
         keys: &[u8],
+        counts: &[usize],
         tape: &mut Tape,
     ) -> Answer {
         let geometry = geometry_of(numbers);
+        let counts: Vec<u64> = counts.iter().map(|&count| count as u64).collect();
         with_tape(tape, |tape| {
-            hiwalgam::format(device, geometry, count, keys, tape)
+            hiwalgam::format(device, geometry, volumes, keys, &counts, tape)
         })
     }
 

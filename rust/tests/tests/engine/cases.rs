@@ -10,7 +10,7 @@ use hiwalgam_tests::stick::{format_need, Stick};
 
 use crate::requests::EDGES;
 use crate::state::Call::*;
-use crate::state::{geometry, open_and_check, run, stick_a, State, CALLS};
+use crate::state::{geometry, open_and_check, run, State, CALLS};
 
 /// The reference's layout, by which the other tests find their places.
 #[test]
@@ -64,10 +64,10 @@ fn tape_of_a_close() {
 #[test]
 fn any_geometry() {
     let mut random = Random::seeded();
-    let stick = stick_a(&mut random, 2);
+    // Counts and a start place that every P allows.
+    let stick = Stick::random_with(&mut random, geometry(1024, 4, 4), &[1, 1], 2);
     let mut base = State::new(&mut random, &stick, 1);
     open_and_check(&mut base, &stick, 1);
-    // A start place that every P allows.
     base.session.start_place = 0;
     base.new_tape(&mut random, format_need(stick.geometry, 2));
     let triples = EDGES.map(|b| EDGES.map(|s| EDGES.map(|p| [b, s, p])));
@@ -102,6 +102,7 @@ fn length_in_64_bits() {
     (state.session.b, state.session.s, state.session.p) = (4096, 256, 4096);
     (state.session.k, state.session.open) = (0, 1);
     state.session.start_place = 4096;
+    state.session.counts[0] = 4096;
     for call in [Format, Read, Write, Close, Open] {
         assert_eq!(run(call, &mut state), Err(DeviceLength));
     }

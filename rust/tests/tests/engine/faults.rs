@@ -5,7 +5,7 @@ use std::rc::Rc;
 use hiwalgam::Refusal::{self, *};
 use hiwalgam_reference::geometry::{Geometry, IV};
 use hiwalgam_tests::inputs::{Guarded, Random};
-use hiwalgam_tests::interface::UNMAPPED;
+use hiwalgam_tests::interface::{Session, UNMAPPED};
 use hiwalgam_tests::stick::{format_need, Stick, Volume};
 
 use crate::formatting::{vmk_of_two_keys, vmk_place};
@@ -91,6 +91,11 @@ impl Faults {
         self.add(NotOpen, "start place", &places, |state, place| {
             state.session.start_place = place;
         });
+        for volume in 0..=base.session.k {
+            self.add(NotOpen, "count", &wrong_counts(p), move |state, count| {
+                state.session.counts[volume] = count;
+            });
+        }
         // An allowed geometry, but of another stick.
         let s = base.session.s % 2 + 1;
         self.add(DeviceLength, "other S", &[s], |state, s| {
@@ -106,7 +111,10 @@ impl Faults {
         self.add(VolumeAbove, "volume", &volumes, |state, volume| {
             state.target.volume = volume;
         });
-        let addresses = [base.session.p * base.session.s, 1 << 32, MAX];
+        let Session { s, p, counts, .. } = base.session;
+        let end = counts[base.target.volume] * s;
+        // Also the last address of a volume of P logical slices, where this one is shorter.
+        let addresses = [end, end.max(p * s - 1), p * s, 1 << 32, MAX];
         self.add(AddressAbove, "address", &addresses, |state, address| {
             state.target.address = address;
         });
@@ -132,38 +140,73 @@ impl Faults {
         });
     }
 
-    /// 1 and 2, with which a formatting and an opening begin.
+    /// 1 for the geometry, with which a formatting and an opening begin.
     fn geometry(&mut self, base: &State) {
-        let [b, s, _] = base.numbers;
-        for (field, numbers) in wrong_numbers(b).iter().enumerate() {
+        for (field, numbers) in wrong_numbers(base.numbers[0]).iter().enumerate() {
             self.add(BadGeometry, "geometry", numbers, move |state, number| {
                 state.numbers[field] = number;
             });
         }
+    }
+
+    /// 2 at a formatting and an opening.
+    fn length(&mut self, base: &State) {
         // An allowed geometry, but of another stick.
-        self.add(DeviceLength, "other S", &[s % 2 + 1], |state, s| {
+        let s = base.numbers[1] % 2 + 1;
+        self.add(DeviceLength, "other S", &[s], |state, s| {
             state.numbers[1] = s;
         });
         self.device(base.device.len());
     }
 
-    /// 23 and 3 at a formatting with 3 keys.
-    fn keys(&mut self, base: &State) {
-        let n = base.count;
+    /// 1 for the counts of a formatting of 3 volumes: each of them not allowed, or another number of
+    /// them than of volumes.
+    fn counts(&mut self, base: &State) {
+        let (n, right) = (base.volumes, base.counts.to_vec());
         assert_eq!(n, 3);
-        // The third is n in 32 bits, and 32 times the fourth is 32 n in 64 bits.
-        let counts = [0, 16, n + (1 << 32), n + (1 << 59), 1 << 63, MAX];
-        self.add(KeyCount, "count", &counts, |state, count| {
-            state.count = count;
-        });
+        let mut cases = Vec::new();
+        for (i, count) in wrong_counts(base.numbers[2]).into_iter().enumerate() {
+            let mut counts = right.clone();
+            counts[i % n] = count;
+            cases.push((n, counts));
+        }
+        // The first and the last of the counts for more volumes than there can be.
+        for i in [0, 15] {
+            let mut counts = vec![1; 16];
+            counts[i] = 0;
+            cases.push((16, counts));
+        }
+        for (volumes, counts) in [(n, 0), (n, n - 1), (n, n + 1), (n, 16), (16, 0), (16, 15)] {
+            cases.push((volumes, vec![1; counts]));
+        }
+        // The fourth is n in 32 bits, and 32 times the fifth is 32 n in 64 bits.
+        for volumes in [0, n - 1, n + 1, n + (1 << 32), n + (1 << 59), 1 << 63, MAX] {
+            cases.push((volumes, right.clone()));
+        }
+        // Each sets both, so that no two of them make up for each other.
+        for (i, (volumes, counts)) in cases.into_iter().enumerate() {
+            self.add(BadGeometry, "counts", &[i], move |state, _| {
+                state.volumes = volumes;
+                state.counts = Guarded::new(&counts);
+            });
+        }
+    }
+
+    /// 23 and 3 at a formatting of 3 volumes.
+    fn keys(&mut self, base: &State) {
+        let n = base.volumes;
+        assert_eq!(n, 3);
+        // With a count for each volume.
+        let put = |state: &mut State, volumes: usize| {
+            state.volumes = volumes;
+            state.counts = Guarded::new(&vec![1; volumes]);
+        };
+        self.add(KeyCount, "volumes", &[0, 16, 17, 256 + n], put);
         let lengths = [0, 1, 32, 32 * n - 1, 32 * n + 1, 32 * (n + 2)];
         self.add(KeyLength, "keys", &lengths, |state, len| {
             state.keys = state.keys.resized(len);
         });
-        let counts = [n - 1, n + 1, 15];
-        self.add(KeyLength, "other count", &counts, |state, count| {
-            state.count = count;
-        });
+        self.add(KeyLength, "other volumes", &[n - 1, n + 1, 15], put);
     }
 
     /// 24: of each two keys the higher is that of the lower volume, or opens its cell although it is
@@ -186,6 +229,7 @@ impl Faults {
     fn arguments_of_open(&mut self, base: &State) {
         let p = base.numbers[2];
         self.geometry(base);
+        self.length(base);
         self.add(KeyLength, "key", &[0, 31, 33, 64], |state, len| {
             state.key = state.key.resized(len);
         });
@@ -215,11 +259,19 @@ impl Faults {
 
     /// 7 and 8 for header `i`.
     fn header(&mut self, random: &mut Random, stick: &Stick, i: usize) {
-        let Geometry { s, p, .. } = stick.geometry;
+        let (Geometry { s, p, .. }, n) = (stick.geometry, stick.volumes[i].count());
         let start = stick.geometry.header(i).start;
         let places = [0, 12, 83, 99].map(|i| start + i);
         self.add(HeaderTag, "header", &places, damage);
-        for numbers in [[p + 1, s], [p, s + 1], [p + 256, s]] {
+        // The fourth is n in 24 bits.
+        for numbers in [
+            [0, s],
+            [p + 1, s],
+            [p + 256, s],
+            [n + (1 << 24), s],
+            [n, s + 1],
+            [n, 0],
+        ] {
             let mut other = stick.clone();
             other.volumes[i].numbers = numbers.map(|number| number as u32);
             other.seal_header(random, i);
@@ -234,14 +286,15 @@ impl Faults {
     }
 
     /// 9 and 10 for entries of a volume that are unmapped, in the order of reading: they become
-    /// slice 2, or no slice.
+    /// slice 2, which is held, or no slice; at and past N also a slice that is free.
     fn map(&mut self, stick: &Stick, volume: usize) {
-        let Geometry { b, p, .. } = stick.geometry;
-        for (logical, entry, refusal) in [
-            (1, p as u32, BadEntry),
-            (p - 2, 2, SliceTwice),
-            (p - 1, UNMAPPED - 1, BadEntry),
-        ] {
+        let (Geometry { b, p, .. }, n) = (stick.geometry, stick.volumes[volume].count());
+        let mut entries = vec![(1, p as u32, BadEntry), (n - 1, 2, SliceTwice)];
+        if n < p {
+            entries.extend([(n, 2, BadEntry), (n, 0, BadEntry), (p - 1, 1, BadEntry)]);
+        }
+        entries.push((p - 1, UNMAPPED - 1, BadEntry));
+        for (logical, entry, refusal) in entries {
             let in_block = stick.geometry.entries_in_block();
             let block = stick.geometry.maps(volume).start + b * (logical / in_block);
             let start = block + IV + 4 * (logical % in_block);
@@ -258,8 +311,10 @@ impl Faults {
     fn of_format(base: &State, layout: Geometry) -> Self {
         let mut faults = Faults::default();
         faults.geometry(base);
+        faults.counts(base);
+        faults.length(base);
         faults.keys(base);
-        faults.tape(base, format_need(layout, base.count));
+        faults.tape(base, format_need(layout, base.volumes));
         faults.lower_cells(base);
         faults
     }
@@ -339,6 +394,16 @@ impl Faults {
         for index in [0, p - 1, p, 2 * p - 1] {
             faults.entry(base, index);
         }
+        // At and past N a slice too.
+        for (volume, &n) in base.session.counts[..2].iter().enumerate() {
+            for index in [n, p - 1].map(|logical| volume * p + logical.max(n)) {
+                if index < (volume + 1) * p {
+                    faults.add(BadEntry, "slice", &[0, 2], move |state, slice| {
+                        set(&mut state.maps, index, slice as u32);
+                    });
+                }
+            }
+        }
         faults.tape(base, 2 * IV * layout.map_blocks());
         faults
     }
@@ -374,18 +439,28 @@ fn wrong_numbers(b: usize) -> [Vec<usize>; 3] {
     ]
 }
 
+/// Counts of logical slices that are not allowed. The last but one is 1 in 32 bits.
+pub fn wrong_counts(p: usize) -> [usize; 6] {
+    [0, p + 1, 4097, 1 << 32, (1 << 32) + 1, MAX]
+}
+
 /// Lengths that a buffer for a block must not have.
 fn wrong_lengths(b: usize) -> [usize; 4] {
     [0, b - 1, b + 1, 5120 - b]
 }
 
-/// Runs a test on sticks of several geometries, which `state` opens at volume 1 of 3. Volume 0 maps
-/// its logical slice 0 to slice 2, volume 1 to slice 3, and no other.
+/// Runs a test on sticks of several geometries and counts, which `state` opens at volume 1 of 3. Volume
+/// 0 maps its logical slice 0 to slice 2, volume 1 to slice 3, and no other.
 pub fn with_sticks(mut test: impl FnMut(&mut Random, &Stick, State)) {
     let mut random = Random::seeded();
-    for (b, s, p) in [(1024, 4, 4), (1024, 3, 17), (1024, 1, 253), (4096, 2, 5)] {
+    for (b, s, p, counts) in [
+        (1024, 4, 4, [4, 4, 4]),
+        (1024, 3, 17, [2, 11, 1]),
+        (1024, 1, 253, [253, 252, 253]),
+        (4096, 2, 5, [4, 3, 5]),
+    ] {
         let layout = geometry(b, s, p);
-        let mut volumes = [(); 3].map(|()| Volume::new(&mut random, layout));
+        let mut volumes = counts.map(|n| Volume::new(&mut random, layout).with_count(n));
         volumes[0].map[0] = 2;
         volumes[1].map[0] = 3;
         let stick = Stick::new(&mut random, layout, volumes.to_vec());
@@ -408,7 +483,7 @@ pub fn with_faults(call: Call, mut test: impl FnMut(&mut Random, &State, &Faults
         let Geometry { s, p, .. } = stick.geometry;
         if call == Format {
             // Some bytes of the tape are used, and some are left over.
-            base.new_tape(random, format_need(stick.geometry, base.count) + 24);
+            base.new_tape(random, format_need(stick.geometry, base.volumes) + 24);
             base.position = 17;
             let faults = Faults::of_format(&base, stick.geometry);
             return test(random, &base, &faults);

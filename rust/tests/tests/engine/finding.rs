@@ -16,7 +16,8 @@ use crate::state::{geometry, open_and_check, State};
 fn parts_by_their_place() {
     let mut random = Random::seeded();
     for (b, s, p) in [(1024, 4, 4), (1024, 1, 1), (1024, 3, 253), (4096, 2, 5)] {
-        let stick = Stick::random(&mut random, geometry(b, s, p), VOLUMES, p);
+        let counts = random.counts(p, VOLUMES);
+        let stick = Stick::random_with(&mut random, geometry(b, s, p), &counts, p);
         let mut state = State::new(&mut random, &stick, VOLUMES - 1);
         open_and_check(&mut state, &stick, VOLUMES - 1);
         let mut targets: Vec<Target> = stick.texts.keys().copied().collect();

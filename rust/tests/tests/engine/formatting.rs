@@ -4,7 +4,7 @@
 use std::collections::{BTreeSet, HashMap};
 use std::ops::Range;
 
-use hiwalgam::Refusal::{HeaderTag, KeyCount, LowerCell, TapeShort};
+use hiwalgam::Refusal::{BadGeometry, HeaderTag, KeyCount, LowerCell, TapeShort};
 use hiwalgam_reference::aes::RoundKeys;
 use hiwalgam_reference::geometry::{Geometry, IV};
 use hiwalgam_reference::{ctr, gcm};
@@ -28,35 +28,48 @@ pub fn vmk_place(state: &State, i: usize) -> Range<usize> {
 
 /// The tape bytes that become the IV of cell `i`.
 fn cell_iv_place(state: &State, i: usize) -> Range<usize> {
-    let start = state.position + state.device.len() + 64 * state.count + 12 * i;
+    let start = state.position + state.device.len() + 64 * state.volumes + 12 * i;
     start..start + 12
 }
 
 // ---- arguments
 
-/// Arguments that format a device of random bytes with `count` random keys. The tape is as long as
-/// the formatting needs, behind `used` bytes.
-fn arguments(random: &mut Random, layout: Geometry, count: usize, used: usize) -> State {
+/// Arguments that format a device of random bytes with so many random keys and counts. The tape is as
+/// long as the formatting needs, behind `used` bytes.
+fn arguments(random: &mut Random, layout: Geometry, volumes: usize, used: usize) -> State {
+    let counts = random.counts(layout.p, volumes);
+    arguments_with(random, layout, &counts, used)
+}
+
+/// The same with these counts.
+pub fn arguments_with(
+    random: &mut Random,
+    layout: Geometry,
+    counts: &[usize],
+    used: usize,
+) -> State {
+    let volumes = counts.iter();
+    let volumes = volumes.map(|&count| Volume::new(random, layout).with_count(count));
     let stick = Stick {
         geometry: layout,
-        volumes: (0..count).map(|_| Volume::new(random, layout)).collect(),
+        volumes: volumes.collect(),
         device: random.bytes(layout.device_len()).to_vec(),
         texts: HashMap::new(),
     };
     let mut state = State::new(random, &stick, 0);
-    state.new_tape(random, used + format_need(layout, count));
+    state.new_tape(random, used + format_need(layout, counts.len()));
     state.position = used;
     state
 }
 
 /// Formats, which must be served and use the whole tape, and tests what is sealed.
-fn format(state: &mut State) -> Stick {
+pub fn format(state: &mut State) -> Stick {
     let ([b, s, p], start) = (state.numbers, state.position);
     assert_eq!(run(Format, state), SERVED);
     assert_eq!(state.position, state.tape.len());
-    let tape = &state.tape[start..];
-    let stick = Stick::formatted(geometry(b, s, p), &state.keys, tape, &state.device);
-    for i in 0..state.count {
+    let (layout, tape) = (geometry(b, s, p), &state.tape[start..]);
+    let stick = Stick::formatted(layout, &state.keys, &state.counts, tape, &state.device);
+    for i in 0..state.volumes {
         check_sealed(&stick, i);
     }
     stick
@@ -92,7 +105,7 @@ fn check_sealed(stick: &Stick, i: usize) {
 }
 
 /// Opens with the key of volume `k`, which must open that volume, and all of it empty.
-fn open(state: &mut State, stick: &Stick, k: usize) {
+pub fn open(state: &mut State, stick: &Stick, k: usize) {
     state.key = Guarded::new(&stick.volumes[k].key);
     open_and_check(state, stick, k);
 }
@@ -151,25 +164,27 @@ fn devices_of_larger_geometries() {
     check_device(&mut random, geometry(4096, 1, 4096), 2);
 }
 
-/// As many keys as counted, and counts whose keys take no byte more in 64 bits.
+/// As many volumes as keys and counts, and numbers of volumes whose keys take no byte more in 64 bits.
 #[test]
-fn counts_of_keys() {
+fn numbers_of_volumes() {
     let mut random = Random::seeded();
     let layout = geometry(1024, 4, 4);
     for keys in 0..=17 {
-        for count in [keys, keys + (1 << 59), keys + (1 << 63)] {
+        for volumes in [keys, keys + (1 << 59), keys + (1 << 61), keys + (1 << 63)] {
             let mut state = arguments(&mut random, layout, 15, 0);
             state.new_tape(&mut random, format_need(layout, 17));
             state.keys = random.bytes(32 * keys);
-            state.count = count;
-            let answer = match count {
+            state.counts = Guarded::new(&random.counts(layout.p, keys));
+            state.volumes = volumes;
+            let answer = match volumes {
                 1..=15 => SERVED,
-                _ => Err(KeyCount),
+                0 | 16 | 17 => Err(KeyCount),
+                _ => Err(BadGeometry),
             };
             assert_eq!(
                 run(Format, &mut state),
                 answer,
-                "{keys} keys, count {count}"
+                "{keys} keys, {volumes} volumes"
             );
         }
     }
@@ -208,7 +223,8 @@ fn keys_and_tape_may_overlap() {
         position: 0,
     };
     let (numbers, keys) = (apart.numbers, &tape.bytes[100..164]);
-    let together = CFunctions.format(&mut device, numbers, 2, keys, &mut tape);
+    let counts = &apart.counts;
+    let together = CFunctions.format(&mut device, numbers, 2, keys, counts, &mut tape);
     assert_eq!((together, tape.position), (SERVED, apart.position));
     assert!(device == apart.device, "device");
 }
@@ -233,7 +249,7 @@ fn sessions_on_a_blank_stick() {
             }
             // A claim in volume k, and a second write, which may be to a lower volume.
             for volume in [k, random.below(k + 1)] {
-                state.target = at(volume, 5 % (s * p));
+                state.target = at(volume, 5 % (s * state.session.counts[volume]));
                 state.text = random.bytes(b);
                 state.new_tape(&mut random, b);
                 let (answer, _) = run_places(Write, &mut state);

@@ -4,6 +4,7 @@
 //! tables, tape position, session and buffers, with the guards around them.
 
 mod cases;
+mod counts;
 mod faults;
 mod finding;
 mod formatting;

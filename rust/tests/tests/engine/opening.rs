@@ -15,7 +15,8 @@ use crate::state::{at, geometry, open_and_check, run, run_places, stick_a, State
 fn opens_at_every_volume() {
     let mut random = Random::seeded();
     for p in [4, 17, 253] {
-        let stick = Stick::random(&mut random, geometry(1024, 1, p), VOLUMES, p / 2);
+        let counts = random.counts(p, VOLUMES);
+        let stick = Stick::random_with(&mut random, geometry(1024, 1, p), &counts, p / 2);
         for k in 0..VOLUMES {
             let mut state = State::new(&mut random, &stick, k);
             open_and_check(&mut state, &stick, k);

@@ -2,9 +2,9 @@
 
 use hiwalgam::sys::{SESSION_BYTES, WRITTEN_BYTES};
 use hiwalgam::Refusal::{NoFreeSlice, NotOpen, WrongLength};
-use hiwalgam_tests::adapters::c_functions::{self, Record};
+use hiwalgam_tests::adapters::c_functions::{self, Record, COUNTS_START, KEYS_START};
 use hiwalgam_tests::inputs::{Guarded, Random};
-use hiwalgam_tests::interface::{Answer, Tables, Tape, SERVED};
+use hiwalgam_tests::interface::{Answer, Tables, Tape, KEYS, SERVED, VOLUMES};
 
 use crate::faults::with_faults;
 use crate::requests::{spoil, CLOSED};
@@ -43,8 +43,8 @@ impl Records {
         let (order, target, buf) = (&state.permutation, state.target, &mut state.buf);
         let answer = match call {
             Format => {
-                let (count, keys) = (state.count, &state.keys);
-                c_functions::format(device, &self.geometry, count, keys, tape)
+                let (volumes, keys, counts) = (state.volumes, &state.keys, &state.counts);
+                c_functions::format(device, &self.geometry, volumes, keys, counts, tape)
             }
             Open => c_functions::open(device, &self.geometry, &state.key, tables, order, session),
             Read => c_functions::read(device, tables, session, target, buf),
@@ -84,7 +84,16 @@ fn fields(call: Call) -> Vec<Field> {
 fn wrong_sizes(record: &Record) -> Vec<Record> {
     let bytes = record.bytes();
     let right = bytes.len();
-    let shorter = [0, 1, 8, right / 2, right - 8, right - 1];
+    // A session is also cut to what it has before its counts.
+    let shorter = [
+        0,
+        1,
+        8,
+        right / 2,
+        COUNTS_START.min(right - 8),
+        right - 8,
+        right - 1,
+    ];
     let longer = [1, 8, 232, 256, right, 65_536].map(|more| right + more);
     let cut = shorter.iter().map(|&size| record.cut(size));
     let short = shorter.iter().map(|&size| Record::new(&bytes[..size]));
@@ -159,14 +168,14 @@ fn wrong_sizes_before_all_refusals() {
 
 // ---- the bytes of a session
 
-/// Makes a call and tests what it leaves of the session.
-fn check_session(call: Call, state: &mut State) -> Answer {
+/// Makes a call and tests what it leaves of the session. `counts` are those of the stick's volumes.
+fn check_session(call: Call, state: &mut State, counts: &[usize]) -> Answer {
     let mut records = Records::of(state);
     let before = records.session.clone();
     let answer = records.call(call, state);
     let left = match (call, answer) {
         (Open, Err(_)) => Record::new(&[0; SESSION_BYTES]),
-        (Open, Ok(())) => opened_at_1(state, &records.session),
+        (Open, Ok(())) => opened_at_1(state, &records.session, counts),
         (Write, Ok(()) | Err(NoFreeSlice)) => moved(&before, &records.written),
         (Close, Ok(())) => closed(&before),
         (Format | Read | Find | Write | Close, _) => before,
@@ -179,37 +188,43 @@ fn check_session(call: Call, state: &mut State) -> Answer {
 }
 
 /// The session of an opening at volume 1: geometry, volume, 1 for open, the start place, the keys of
-/// the volumes 0 and 1, which follow from the device, and zeros.
-fn opened_at_1(state: &State, session: &Record) -> Record {
+/// the volumes 0 and 1, which follow from the device, and zeros; then their counts, and zeros.
+fn opened_at_1(state: &State, session: &Record, counts: &[usize]) -> Record {
     let [b, s, p] = state.numbers;
     let numbers = [b, s, p, 1, 1, state.first_free(0)].map(usize::to_le_bytes);
-    let keys = &session.bytes()[48..112];
-    Record::new(&[numbers.as_flattened(), keys, &[0; 416]].concat())
+    let mut keys = [0; KEYS];
+    keys[..64].copy_from_slice(&session.bytes()[KEYS_START..KEYS_START + 64]);
+    let mut held = [0; VOLUMES];
+    held[..2].copy_from_slice(&counts[..2]);
+    let held = held.map(usize::to_le_bytes);
+    Record::new(&[numbers.as_flattened(), &keys, held.as_flattened()].concat())
 }
 
 /// A session with the start place moved by as many places as a write looked at.
 fn moved(before: &Record, written: &Record) -> Record {
     let number = |bytes: &[u8]| u64::from_le_bytes(bytes.try_into().unwrap());
     let place = number(&before.bytes()[40..48]) + number(&written.bytes()[16..24]);
-    let (first, keys) = (&before.bytes()[..40], &before.bytes()[48..]);
-    Record::new(&[first, &place.to_le_bytes(), keys].concat())
+    let (first, rest) = (&before.bytes()[..40], &before.bytes()[KEYS_START..]);
+    Record::new(&[first, &place.to_le_bytes(), rest].concat())
 }
 
-/// A session after its close: geometry, volume and start place stay.
+/// A session after its close: geometry, volume, start place and counts stay.
 fn closed(before: &Record) -> Record {
-    let (first, place) = (&before.bytes()[..32], &before.bytes()[40..48]);
-    Record::new(&[first, &[0; 8], place, &[0; 480]].concat())
+    let (first, place) = (&before.bytes()[..32], &before.bytes()[40..KEYS_START]);
+    let counts = &before.bytes()[COUNTS_START..];
+    Record::new(&[first, &[0; 8], place, &[0; KEYS], counts].concat())
 }
 
 #[test]
 fn sessions_after_each_call() {
     for call in CALLS {
         with_faults(call, |random, base, faults| {
-            assert_eq!(check_session(call, &mut base.clone()), SERVED);
+            let counts = &base.counts;
+            assert_eq!(check_session(call, &mut base.clone(), counts), SERVED);
             for fault in &faults.0 {
                 let mut state = base.clone();
                 fault.put(&mut state);
-                let answer = check_session(call, &mut state);
+                let answer = check_session(call, &mut state, counts);
                 assert!(call == Find || answer == Err(fault.refusal), "{call:?}");
             }
             // Several faults of any kind.
@@ -218,7 +233,7 @@ fn sessions_after_each_call() {
                 for _ in 0..1 + random.below(3) {
                     spoil(random, &mut state);
                 }
-                let _answer = check_session(call, &mut state);
+                let _answer = check_session(call, &mut state, counts);
             }
         });
     }
@@ -233,7 +248,7 @@ fn any_session_stays() {
                 let mut state = base.clone();
                 state.session = any_session(random);
                 state.session.open = open;
-                let answer = check_session(call, &mut state);
+                let answer = check_session(call, &mut state, &base.counts);
                 assert!(answer == Err(NotOpen) || call == Find && state.found == 0);
             }
         });

@@ -5,6 +5,7 @@ use hiwalgam_reference::geometry::Geometry;
 use hiwalgam_tests::interface::{Written, SERVED, UNMAPPED};
 
 use crate::faults::{held_first, with_faults, with_sticks};
+use crate::requests::MAX;
 use crate::state::Call::{self, *};
 use crate::state::{at, open_and_check, run, run_places, State};
 
@@ -72,9 +73,10 @@ fn no_refusal() {
         let Geometry { s, p, .. } = stick.geometry;
         base.permutation = held_first(p);
         open_and_check(&mut base, stick, 1);
-        let changes: [fn(&mut State); 7] = [
-            // Keys and rows above k, owners above 15.
+        let changes: [fn(&mut State); 9] = [
+            // Keys, counts and rows above k, owners above 15.
             |state| state.session.keys[64..].fill(1),
+            |state| state.session.counts[2..].fill(MAX),
             |state| state.maps[2 * state.session.p..].fill(UNMAPPED - 1),
             |state| state.owners[2..4].fill(255),
             // Places after the free one and before the start place, and duplicates.
@@ -86,6 +88,8 @@ fn no_refusal() {
             },
             // A start place before the held places.
             |state| state.session.start_place = 0,
+            // Other counts than those of the headers, all allowed.
+            |state| state.session.counts[..2].fill(state.session.p),
         ];
         for change in changes {
             for (call, address) in [(Read, 0), (Find, 0), (Write, 0), (Write, s), (Close, 0)] {

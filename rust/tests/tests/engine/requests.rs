@@ -26,15 +26,17 @@ pub const CLOSED: [usize; 7] = [0, 2, 7, 255, 257, (1 << 32) + 1, MAX];
 pub fn request(random: &mut Random, state: &mut State, order: &[u32]) -> Call {
     let Session { b, s, p, k, .. } = state.session;
     let wrong = |random: &mut Random| random.once_in(25);
+    let volume = random.below(k + 1);
+    let end = state.session.counts[volume] * s;
     // Half of the addresses are in the first slices, where requests meet.
-    let addresses = [p * s, (p * s).min(2 * s + 2)];
-    let bound = random.pick(&addresses);
-    state.target = at(random.below(k + 1), random.below(bound));
+    let bound = random.pick(&[end, end.min(2 * s + 2)]);
+    state.target = at(volume, random.below(bound));
     if wrong(random) {
         state.target.volume = random.pick(&[k + 1, 14, 15, 1 << 32, MAX]);
     }
     if wrong(random) {
-        state.target.address = random.pick(&[p * s, p * s + 1, 1 << 32, MAX]);
+        let addresses = [end, end + 1, p * s - 1, p * s, p * s + 1, 1 << 32, MAX];
+        state.target.address = random.pick(&addresses);
     }
     let len = |random: &mut Random| match random.once_in(25) {
         true => random.pick(&[0, 1, b - 1, b + 1, 5120 - b]),
@@ -78,7 +80,7 @@ fn permutation(random: &mut Random, p: usize) -> Guarded<u32> {
 pub fn spoil(random: &mut Random, state: &mut State) {
     let edge = random.pick(&EDGES);
     let near = |random: &mut Random, len: usize| random.pick(&[0, len / 2, len + 1, 2 * len]);
-    match random.below(27) {
+    match random.below(31) {
         0 => state.session.b = edge,
         1 => state.session.s = edge,
         2 => state.session.p = edge,
@@ -104,7 +106,7 @@ pub fn spoil(random: &mut Random, state: &mut State) {
                 state.maps[entry] = random.pick(&[0, 1, 4, 300, 4096, 1 << 31, UNMAPPED - 1]);
             }
         }
-        20 => state.count = random.pick(&[edge, state.count + 1, 15, 16]),
+        20 => state.volumes = random.pick(&[edge, state.volumes.wrapping_add(1), 15, 16]),
         21 => state.keys = state.keys.resized(near(random, state.keys.len())),
         22 if state.keys.len() >= 64 => state.keys.copy_within(..32, 32),
         23 => {
@@ -113,7 +115,7 @@ pub fn spoil(random: &mut Random, state: &mut State) {
             let geometry = Geometry::new(b, s, p);
             let len = state.device.len();
             if let Some(geometry) = geometry.filter(|geometry| geometry.device_len() == len) {
-                let need = format_need(geometry, state.count.min(VOLUMES));
+                let need = format_need(geometry, state.volumes.min(VOLUMES));
                 let short = random.below(2);
                 state.new_tape(random, need - short);
             }
@@ -122,6 +124,23 @@ pub fn spoil(random: &mut Random, state: &mut State) {
             let p = state.session.p;
             let places = [0, 1, p / 2, p, p.wrapping_add(1), edge];
             state.session.start_place = random.pick(&places);
+        }
+        25 => {
+            let p = state.session.p;
+            let counts = [0, 1, p / 2, p, p.wrapping_add(1), edge];
+            state.session.counts[random.below(VOLUMES)] = random.pick(&counts);
+        }
+        26 if !state.counts.is_empty() => {
+            let p = state.numbers[2];
+            let counts = [0, 1, p / 2, p, p.wrapping_add(1), edge];
+            let volume = random.below(state.counts.len());
+            state.counts[volume] = random.pick(&counts);
+        }
+        27 => state.counts = state.counts.resized(near(random, state.counts.len())),
+        28 => {
+            // Another number of volumes, with a count for each.
+            state.volumes = random.pick(&[0, 1, 2, 15, 16, 17]);
+            state.counts = Guarded::new(&vec![1; state.volumes]);
         }
         _ => {
             // Mostly in the master block and the headers.

@@ -87,9 +87,11 @@ impl Model {
 
     /// Reads every block of the open volumes with every implementation.
     pub fn check_all(&self, state: &mut State) {
-        let Session { b, s, p, k, .. } = state.session;
-        for volume in 0..=k {
-            for address in 0..p * s {
+        let Session {
+            b, s, k, counts, ..
+        } = state.session;
+        for (volume, &count) in counts[..=k].iter().enumerate() {
+            for address in 0..count * s {
                 state.target = at(volume, address);
                 let text = self.text(state.target, b);
                 for engine in ENGINES {
@@ -102,18 +104,19 @@ impl Model {
     }
 }
 
-/// A stick with up to 15 volumes, which is opened at volume `k`.
+/// A stick with up to 15 volumes of any lengths, which is opened at volume `k`.
 fn random_stick(random: &mut Random, geometry: Geometry) -> (Stick, usize) {
-    let count = 1 + random.below(VOLUMES);
+    let volumes = 1 + random.below(VOLUMES);
+    let counts = random.counts(geometry.p, volumes);
     let mapped = random.below(geometry.p + 1).min(100);
     let mut stick = match mapped {
-        0 => Stick::blank(random, geometry, count),
-        _ => Stick::random(random, geometry, count, mapped),
+        0 => Stick::blank_with(random, geometry, &counts),
+        _ => Stick::random_with(random, geometry, &counts, mapped),
     };
-    let k = random.below(count);
+    let k = random.below(volumes);
     let key = stick.volumes[k].key;
     // The same key for a cell above must not matter.
-    for i in k + 1..count {
+    for i in k + 1..volumes {
         if random.once_in(4) {
             stick.seal_cell(random, i, &key);
         }
@@ -182,6 +185,7 @@ fn scenario(random: &mut Random, geometry: Geometry, requests: usize) {
         state.permutation = Guarded::new(&random.permutation(geometry.p));
         assert_eq!(run(Open, &mut state), SERVED);
         assert_eq!(state.session.k, k);
+        assert_eq!(state.session.counts[..=k], stick.counts()[..=k]);
         model.opened(k);
         model.check_all(&mut state);
         if random.once_in(2) {

@@ -37,9 +37,10 @@ pub struct State {
     pub position: usize,
     /// B, S and P for a formatting and an opening.
     pub numbers: [usize; 3],
-    /// The keys for a formatting, end to end, and their number.
+    /// The keys for a formatting, end to end, the counts of logical slices, and the number of volumes.
     pub keys: Guarded,
-    pub count: usize,
+    pub counts: Guarded<usize>,
+    pub volumes: usize,
     pub key: Guarded,
     pub permutation: Guarded<u32>,
     pub target: Target,
@@ -50,8 +51,8 @@ pub struct State {
 }
 
 impl State {
-    /// Arguments that open a stick with the key of volume `k`, or format it anew with the keys of all
-    /// its volumes, where the tape is long enough. The tables and the session hold anything.
+    /// Arguments that open a stick with the key of volume `k`, or format it anew with the keys and counts
+    /// of all its volumes, where the tape is long enough. The tables and the session hold anything.
     pub fn new(random: &mut Random, stick: &Stick, k: usize) -> Self {
         let Geometry { b, s, p } = stick.geometry;
         let garbage: Vec<u32> = (0..VOLUMES * p).map(|_| random.word() as u32).collect();
@@ -64,7 +65,8 @@ impl State {
             position: 0,
             numbers: [b, s, p],
             keys: Guarded::new(&stick.keys()),
-            count: stick.volumes.len(),
+            counts: Guarded::new(&stick.counts()),
+            volumes: stick.volumes.len(),
             key: Guarded::new(&stick.volumes[k].key),
             permutation: Guarded::new(&random.permutation(p)),
             target: at(0, 0),
@@ -121,8 +123,9 @@ impl State {
         let (order, target) = (&self.permutation, self.target);
         let written = match call {
             Format => {
-                let (numbers, count, keys) = (self.numbers, self.count, &self.keys);
-                Written::of(engine.format(device, numbers, count, keys, tape))
+                let (numbers, volumes) = (self.numbers, self.volumes);
+                let (keys, counts) = (&self.keys, &self.counts);
+                Written::of(engine.format(device, numbers, volumes, keys, counts, tape))
             }
             Open => {
                 let (numbers, key) = (self.numbers, &self.key);
@@ -169,6 +172,7 @@ pub fn any_session(random: &mut Random) -> Session {
         open,
         start_place,
         keys: random.array(),
+        counts: [(); VOLUMES].map(|()| random.word() as usize),
     }
 }
 
@@ -245,16 +249,16 @@ fn after_format(state: &mut State, after: &State) -> Vec<Range<usize>> {
     };
     let mut device = state.tape[draw(state.device.len())].to_vec();
     // VMK and VEK of each volume.
-    draw(64 * state.count);
+    draw(64 * state.volumes);
     let mut put = |start: usize, iv: usize, sealed: usize| {
         let end = start + iv;
         device[start..end].copy_from_slice(&state.tape[draw(iv)]);
         device[end..end + sealed].copy_from_slice(&after.device[end..end + sealed]);
     };
-    for i in 0..state.count {
+    for i in 0..state.volumes {
         put(geometry.cell(i).start, 12, 32 + 16);
     }
-    for i in 0..state.count {
+    for i in 0..state.volumes {
         put(geometry.header(i).start, 12, 72 + 16);
         for map in geometry.maps(i).step_by(b) {
             put(map, IV, b - IV);
@@ -270,6 +274,10 @@ fn after_opening(state: &mut State, after: &State) -> Vec<Range<usize>> {
     state.maps = Guarded::new(&after.maps);
     state.owners = Guarded::new(&after.owners);
     state.session.start_place = state.first_free(0);
+    let Session { p, k, counts, .. } = after.session;
+    let (open, above) = counts.split_at(k + 1);
+    assert!(open.iter().all(|count| (1..=p).contains(count)), "counts");
+    assert!(above.iter().all(|&count| count == 0), "counts above");
     Vec::new()
 }
 
@@ -371,6 +379,7 @@ pub fn open_and_check(state: &mut State, stick: &Stick, k: usize) {
             owners[slice as usize] = i as u8 + 1;
         }
         session.keys[32 * i..32 * (i + 1)].copy_from_slice(&volume.vek);
+        session.counts[i] = volume.count();
     }
     let mut places = state.permutation.iter();
     let first = places.position(|&slice| owners[slice as usize] == 0);

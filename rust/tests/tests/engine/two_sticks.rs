@@ -15,7 +15,8 @@ use crate::state::{geometry, open_and_check, run_places, State};
 /// those headers map, and on nothing else.
 fn twin(random: &mut Random, stick: &Stick, k: usize) -> Stick {
     let geometry = stick.geometry;
-    let mut other = Stick::random(random, geometry, VOLUMES, geometry.p);
+    let counts = random.counts(geometry.p, VOLUMES);
+    let mut other = Stick::random_with(random, geometry, &counts, geometry.p);
     for i in k + 1..VOLUMES {
         if random.once_in(2) {
             other.seal_cell(random, i, &stick.volumes[k].key);
@@ -75,10 +76,13 @@ fn run_both(
 /// Two sticks that agree as far as the key opens them give equal answers to one list of requests,
 /// and hold equal bytes wherever it wrote.
 fn compare_two_sticks(random: &mut Random, geometry: Geometry) {
-    let count = 1 + random.below(VOLUMES);
-    let k = random.below(count);
-    let mapped = random.below(geometry.p + 1);
-    let stick = Stick::random(random, geometry, count, mapped);
+    let volumes = 1 + random.below(VOLUMES);
+    let k = random.below(volumes);
+    let (counts, mapped) = (
+        random.counts(geometry.p, volumes),
+        random.below(geometry.p + 1),
+    );
+    let stick = Stick::random_with(random, geometry, &counts, mapped);
     let other = twin(random, &stick, k);
     let [mut one, mut two] = open_both(random, &stick, &other, k);
     let order = one.permutation.to_vec();
