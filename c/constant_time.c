@@ -69,7 +69,8 @@ static size_t depending_texts(const struct stick *s)
 static size_t depending_others(const struct stick *s)
 {
     return depending(s->maps, HIWALGAM_VOLUMES * s->slices * sizeof *s->maps) + depending(s->owners, s->slices)
-        + depending(&s->session, offsetof(hiwalgam_session, keys)) + depending(&s->written, sizeof s->written)
+        + depending(&s->session, offsetof(hiwalgam_session, keys))
+        + depending(s->session.counts, sizeof s->session.counts) + depending(&s->written, sizeof s->written)
         + depending(&s->position, sizeof s->position) + depending(&s->answer, sizeof s->answer);
 }
 

@@ -1,6 +1,6 @@
 /*
- * A first program: makes a device with two volumes, opens both, writes a block of the upper one, closes, opens again and
- * reads the block back.
+ * A first program: makes a device with two volumes of different lengths, opens both, writes the last block of the upper
+ * one, closes, opens again and reads the block back.
  */
 #include <stdio.h>
 #include <string.h>
@@ -11,8 +11,8 @@ enum {
     M = 1,                  /* map blocks of a volume: P / 252, rounded up */
     DEVICE = B * (1 + HIWALGAM_VOLUMES * (1 + M) + P * (S + 1)),
     MAPS = HIWALGAM_VOLUMES * P,
-    KEYS = 2,                       /* one for each volume that is made */
-    VOLUME = KEYS - 1, ADDRESS = 5, /* the block that is written */
+    KEYS = 2,                        /* one for each volume that is made */
+    VOLUME = KEYS - 1, ADDRESS = 11, /* the block that is written */
     TAPE = DEVICE + KEYS * (88 + 16 * M) + B + KEYS * 16 * M /* a formatting, a write that claims a slice, a close */
 };
 
@@ -26,6 +26,7 @@ int main(void) {
     static uint32_t maps[MAPS];
     const uint32_t permutation[P] = { 2, 0, 3, 1 };
     const hiwalgam_geometry geometry = { B, S, P };
+    const uint64_t counts[KEYS] = { P, 3 }; /* logical slices: volume 0 has P x S blocks, VOLUME 3 x S */
     const uint8_t *key = keys + VOLUME * HIWALGAM_KEY_BYTES; /* opens VOLUME and all below it */
     hiwalgam_session session;
     hiwalgam_written written;
@@ -38,7 +39,7 @@ int main(void) {
     memset(text, 'a', B);
 
     if (refused("format", hiwalgam_format(device, DEVICE, &geometry, sizeof geometry, KEYS, keys, sizeof keys,
-            tape, TAPE, &position))) return 1;
+            counts, KEYS, tape, TAPE, &position))) return 1;
     if (refused("open", hiwalgam_open(device, DEVICE, &geometry, sizeof geometry, key, HIWALGAM_KEY_BYTES, maps, MAPS,
             owners, P, permutation, P, &session, sizeof session))) return 1;
     if (refused("write", hiwalgam_write(device, DEVICE, maps, MAPS, owners, P, permutation, P, tape, TAPE, &position,
@@ -51,5 +52,6 @@ int main(void) {
             owners, P, permutation, P, &session, sizeof session))) return 1;
     if (refused("read", hiwalgam_read(device, DEVICE, maps, MAPS, owners, P, &session, sizeof session,
             VOLUME, ADDRESS, block, B))) return 1;
-    return memcmp(block, text, B) != 0 || position != TAPE || session.volume != VOLUME || session.start_place != 1;
+    return memcmp(block, text, B) != 0 || position != TAPE || session.volume != VOLUME || session.start_place != 1
+        || ADDRESS + 1 != session.counts[VOLUME] * S;
 }

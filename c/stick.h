@@ -9,7 +9,10 @@
 #include <stdlib.h>
 #include "hiwalgam.h"
 
-/* A device, which a formatting with 15 keys makes, and what calls take besides. */
+/*
+ * A device, which a formatting with 15 keys makes, and what calls take besides. Volume v has v + 1 logical slices, or P where
+ * that is fewer.
+ */
 struct stick {
     hiwalgam_geometry geometry;
     uint8_t *device;
@@ -24,6 +27,7 @@ struct stick {
     hiwalgam_session session;
     hiwalgam_written written;
     uint8_t keys[HIWALGAM_VOLUMES * HIWALGAM_KEY_BYTES];
+    uint64_t counts[HIWALGAM_VOLUMES];
     uint8_t iv[HIWALGAM_IV_BYTES];
     uint8_t tag[HIWALGAM_GCM_TAG_BYTES];
     uint8_t text[HIWALGAM_TEXT_LIMIT];
@@ -65,6 +69,7 @@ static inline struct stick *make_stick(uint64_t block_bytes, uint64_t slice_bloc
     stick->tape = (uint8_t *)zeros(stick->tape_length, 1);
     for (size_t i = 0; i < stick->slices; i++) stick->permutation[i] = (uint32_t)(stick->slices - 1 - i);
     for (size_t i = 0; i < sizeof stick->keys; i++) stick->keys[i] = (uint8_t)(1 + i / HIWALGAM_KEY_BYTES);
+    for (size_t v = 0; v < HIWALGAM_VOLUMES; v++) stick->counts[v] = v + 1 < slices ? v + 1 : slices;
     stick->text_length = HIWALGAM_TEXT_LIMIT;
     stick->text_position = HIWALGAM_POSITION_LIMIT - 1;
     return stick;
@@ -85,7 +90,8 @@ static inline void free_stick(struct stick *stick)
 static inline void call_format(struct stick *s)
 {
     s->answer = hiwalgam_format(s->device, s->device_length, &s->geometry, sizeof s->geometry,
-                                HIWALGAM_VOLUMES, s->keys, sizeof s->keys, s->tape, s->tape_length, &s->position);
+                                HIWALGAM_VOLUMES, s->keys, sizeof s->keys, s->counts, HIWALGAM_VOLUMES,
+                                s->tape, s->tape_length, &s->position);
 }
 
 /* Opens all volumes. */

@@ -19,15 +19,18 @@
 
 /* ---- What calls are lent -------------------------------------------------------------------------------------- */
 
-/* The lists and structs that calls take. KEY is one key or several, TEXT what is enciphered, BUFFER what is filled. */
+/*
+ * The lists and structs that calls take. KEY is one key or several, COUNTS the logical slices of the volumes that a
+ * formatting makes, TEXT what is enciphered, BUFFER what is filled.
+ */
 enum part {
-    DEVICE, GEOMETRY, KEY, MAPS, OWNERS, PERMUTATION, TAPE, POSITION, SESSION, TEXT, BUFFER, WRITTEN, IV, AAD, TAG,
+    DEVICE, GEOMETRY, KEY, COUNTS, MAPS, OWNERS, PERMUTATION, TAPE, POSITION, SESSION, TEXT, BUFFER, WRITTEN, IV, AAD, TAG,
     PARTS
 };
 
 static const char *const PART_NAMES[PARTS] = {
-    "device", "geometry", "key", "map table", "owner table", "permutation", "tape", "tape position", "session",
-    "text", "buffer", "written", "IV", "associated data", "tag"
+    "device", "geometry", "key", "counts", "map table", "owner table", "permutation", "tape", "tape position",
+    "session", "text", "buffer", "written", "IV", "associated data", "tag"
 };
 
 /*
@@ -68,7 +71,7 @@ struct bench {
     struct states parts[PARTS];
     uint64_t volume;
     uint64_t address;
-    size_t count;           /* of a formatting's keys */
+    size_t volumes;         /* that a formatting makes: the number of its keys */
     uint64_t text_position; /* of keystream_at */
     size_t calls;
     size_t passed;
@@ -106,10 +109,11 @@ static void store(struct bytes *place, const void *from, size_t length)
     if (length != 0) memcpy(place->at, from, length);
 }
 
-/* uint32_t and size_t stay aligned in every placement, as the header asks; bytes and structs do not. */
+/* Lists of uint32_t and uint64_t and a size_t stay aligned in every placement, as the header asks; other parts do not. */
 static size_t shift_of(int part)
 {
     if (part == MAPS || part == PERMUTATION) return sizeof(uint32_t);
+    if (part == COUNTS) return sizeof(uint64_t);
     if (part == POSITION) return sizeof(size_t);
     return 2 * (size_t)part + 1;
 }
@@ -270,7 +274,7 @@ static const unsigned TAKES[FUNCTIONS] = {
     BIT(DEVICE) | BIT(MAPS) | BIT(OWNERS) | BIT(SESSION) | BIT(BUFFER),
     BIT(DEVICE) | BIT(MAPS) | BIT(OWNERS) | BIT(PERMUTATION) | BIT(TAPE) | BIT(SESSION) | BIT(TEXT) | BIT(WRITTEN),
     BIT(DEVICE) | BIT(MAPS) | BIT(OWNERS) | BIT(TAPE) | BIT(SESSION),
-    BIT(DEVICE) | BIT(GEOMETRY) | BIT(KEY) | BIT(TAPE),
+    BIT(DEVICE) | BIT(GEOMETRY) | BIT(KEY) | BIT(COUNTS) | BIT(TAPE),
     BIT(KEY) | BIT(IV) | BIT(TEXT) | BIT(BUFFER),
     BIT(KEY) | BIT(IV) | BIT(TEXT) | BIT(BUFFER),
     BIT(KEY) | BIT(IV) | BIT(AAD) | BIT(TEXT) | BIT(BUFFER) | BIT(TAG),
@@ -364,8 +368,9 @@ static uint8_t call_format(struct bench *b)
 {
     return hiwalgam_format(bytes_of(b, DEVICE), length_of(b, DEVICE),
                            (const hiwalgam_geometry *)(void *)bytes_of(b, GEOMETRY), length_of(b, GEOMETRY),
-                           b->count,
+                           b->volumes,
                            bytes_of(b, KEY), length_of(b, KEY),
+                           (const uint64_t *)(void *)bytes_of(b, COUNTS), length_of(b, COUNTS) / sizeof(uint64_t),
                            bytes_of(b, TAPE), length_of(b, TAPE), (size_t *)(void *)bytes_of(b, POSITION));
 }
 
@@ -460,19 +465,22 @@ static void check_find_changed(struct bench *bench, size_t byte, size_t length, 
 
 /* ---- Files and words ------------------------------------------------------------------------------------------ */
 
-/* The whole of a file of the folder; `at` is NULL where it cannot be read. */
-static struct bytes load(const struct bench *bench, const char *name)
+enum { WHOLE = -1 };
+
+/* So many bytes of a file of the folder, or the WHOLE of it; `at` is NULL where they cannot be read. */
+static struct bytes load_part(const struct bench *bench, const char *name, long offset, long length)
 {
     struct bytes content = { NULL, 0 };
     char path[1024];
     FILE *file;
-    long length;
+    long size;
 
     if (snprintf(path, sizeof path, "%s/%s", bench->folder, name) >= (int)sizeof path) return content;
     file = fopen(path, "rb");
     if (file == NULL) return content;
-    if (fseek(file, 0, SEEK_END) == 0 && (length = ftell(file)) >= 0 && fseek(file, 0, SEEK_SET) == 0) {
-        content = new_bytes((size_t)length);
+    if (fseek(file, 0, SEEK_END) == 0 && (size = ftell(file)) >= offset && size - offset >= length
+        && fseek(file, offset, SEEK_SET) == 0) {
+        content = new_bytes((size_t)(length == WHOLE ? size : length));
         if (fread(content.at, 1, content.length, file) != content.length) {
             free(content.at);
             memset(&content, 0, sizeof content);
@@ -480,6 +488,11 @@ static struct bytes load(const struct bench *bench, const char *name)
     }
     fclose(file);
     return content;
+}
+
+static struct bytes load(const struct bench *bench, const char *name)
+{
+    return load_part(bench, name, 0, WHOLE);
 }
 
 /* The words of a line, from which they are taken one by one. What is not as it has to be sets `wrong`. */
@@ -539,18 +552,33 @@ static void take_end(struct words *words)
     if (words_left(words) != 0) words->wrong = 1;
 }
 
-static uint64_t take_number(struct words *words, uint64_t most)
+static int is_digit(char c)
+{
+    return c >= '0' && c <= '9';
+}
+
+/* The number that the digits from *at on stand for, of which there is one at least; *at is then behind them. */
+static uint64_t take_digits(struct words *words, const char **at, uint64_t most)
 {
     uint64_t number = 0;
 
-    for (const char *c = take_word(words); *c != 0; c++) {
-        unsigned digit = (unsigned)(*c - '0');
-        if (digit > 9 || digit > most || number > (most - digit) / 10) {
+    if (!is_digit(**at)) words->wrong = 1;
+    for (; is_digit(**at); (*at)++) {
+        unsigned digit = (unsigned)(**at - '0');
+        if (digit > most || number > (most - digit) / 10) {
             words->wrong = 1;
             return 0;
         }
         number = 10 * number + digit;
     }
+    return number;
+}
+
+static uint64_t take_number(struct words *words, uint64_t most)
+{
+    const char *at = take_word(words);
+    uint64_t number = take_digits(words, &at, most);
+    if (*at != 0) words->wrong = 1;
     return number;
 }
 
@@ -591,6 +619,32 @@ static struct bytes from_hex(const char *hex)
     return bytes;
 }
 
+/* A word of counts with commas between them, COUNT*TIMES for one that comes so many times; `-` for none. */
+static struct bytes take_counts(struct words *words)
+{
+    struct bytes counts = new_bytes(0);
+    const char *at = take_this(words, "-") ? "" : take_word(words);
+
+    while (*at != 0 && !words->wrong) {
+        uint64_t count = take_digits(words, &at, UINT64_MAX);
+        size_t times = 1;
+        struct bytes longer;
+
+        if (*at == '*') {
+            at++;
+            times = (size_t)take_digits(words, &at, 1u << 20);
+        }
+        longer = new_bytes(counts.length + times * sizeof count);
+        memcpy(longer.at, counts.at, counts.length);
+        for (size_t i = 0; i < times; i++) memcpy(longer.at + counts.length + i * sizeof count, &count, sizeof count);
+        free(counts.at);
+        counts = longer;
+        if (*at == ',' && is_digit(at[1])) at++;
+        else if (*at != 0) words->wrong = 1;
+    }
+    return counts;
+}
+
 static struct bytes take_key(struct words *words)
 {
     struct bytes key = from_hex(take_this(words, "-") ? "" : take_word(words));
@@ -602,13 +656,10 @@ static struct bytes take_key(struct words *words)
 static struct bytes part_of_file(const struct bench *bench, struct words *words, const char *name, size_t offset,
                                  size_t length)
 {
-    struct bytes whole = { NULL, 0 };
-    struct bytes part = filled(length, 0);
+    struct bytes part = { NULL, 0 };
 
-    if (!words->wrong) whole = load(bench, name);
-    if (whole.at == NULL || offset > whole.length || length > whole.length - offset) words->wrong = 1;
-    else memcpy(part.at, whole.at + offset, length);
-    free(whole.at);
+    if (!words->wrong) part = load_part(bench, name, (long)offset, (long)length);
+    if (part.at == NULL) words->wrong = 1;
     return part;
 }
 
@@ -757,7 +808,7 @@ static void set_position(struct bench *bench, struct words *words, int given)
 static void set_session(struct bench *bench, struct words *words, int given)
 {
     hiwalgam_session session;
-    struct bytes bytes = { NULL, 0 };
+    struct bytes counts, bytes = { NULL, 0 };
 
     memset(&session, 0, sizeof session);
     session.geometry.block_bytes = take_number(words, UINT64_MAX);
@@ -766,6 +817,10 @@ static void set_session(struct bench *bench, struct words *words, int given)
     session.volume = take_number(words, UINT64_MAX);
     session.open = take_number(words, 1);
     session.start_place = take_number(words, UINT64_MAX);
+    counts = take_counts(words);
+    if (counts.length > sizeof session.counts) words->wrong = 1;
+    else memcpy(session.counts, counts.at, counts.length);
+    free(counts.at);
     for (size_t i = 0; words_left(words) != 0 && !words->wrong; i++) {
         struct bytes key = take_key(words);
         if (i == HIWALGAM_VOLUMES || key.length != HIWALGAM_KEY_BYTES) words->wrong = 1;
@@ -787,6 +842,18 @@ static void set_start(struct bench *bench, struct words *words, int given)
     set_some(bench, words, given, SESSION, offsetof(hiwalgam_session, start_place), bytes);
 }
 
+/* The session's count of one volume alone. */
+static void set_count(struct bench *bench, struct words *words, int given)
+{
+    size_t volume = (size_t)take_number(words, HIWALGAM_VOLUMES - 1);
+    uint64_t count = take_number(words, UINT64_MAX);
+    struct bytes bytes = { NULL, 0 };
+
+    take_end(words);
+    store(&bytes, &count, sizeof count);
+    set_some(bench, words, given, SESSION, offsetof(hiwalgam_session, counts) + volume * sizeof count, bytes);
+}
+
 struct line_kind {
     const char *word;
     void (*set)(struct bench *bench, struct words *words, int given);
@@ -796,7 +863,7 @@ static const struct line_kind LINE_KINDS[] = {
     { "device", set_device }, { "zeros", set_zeros }, { "bytes", set_bytes }, { "geometry", set_geometry },
     { "maps", set_maps }, { "row", set_row }, { "entry", set_entry }, { "owners", set_owners },
     { "owner", set_owner }, { "permutation", set_permutation }, { "tape", set_tape }, { "position", set_position },
-    { "session", set_session }, { "start", set_start }
+    { "session", set_session }, { "start", set_start }, { "count", set_count }
 };
 
 static void set_part(struct bench *bench, struct words *words, int given)
@@ -927,19 +994,22 @@ static void line_close(struct bench *bench, struct words *words)
 
 static void line_format(struct bench *bench, struct words *words)
 {
-    struct bytes keys;
+    struct bytes keys, counts;
     uint64_t answer;
 
-    bench->count = (size_t)take_number(words, UINT64_MAX);
+    bench->volumes = (size_t)take_number(words, UINT64_MAX);
     keys = take_key(words);
+    counts = take_counts(words);
     take_equals(words);
     answer = take_number(words, UINT8_MAX);
     take_end(words);
     if (!words->wrong) {
         lend(bench, KEY, keys.at, keys.length);
+        lend(bench, COUNTS, counts.at, counts.length);
         check_answer(bench, FORMAT, (size_t)answer);
     }
     free(keys.at);
+    free(counts.at);
 }
 
 static void line_image(struct bench *bench, struct words *words)
@@ -1053,6 +1123,12 @@ static void lend_hex(struct bench *bench, int part, const char *hex)
  */
 enum { SMALL_B = 1024, SMALL_P = 4, SMALL_MAPPED = 4, SMALL_UNMAPPED = 0, SMALL_START = 3, SMALL_PROBES = 1 };
 
+/* The data keys of its volumes 0, 1 and 2. */
+static const char SMALL_DATA_KEYS[] =
+    "d1f4a3dbe758f902f537eb7142290c85489a207279c03d51d2b63d1d7dcce303"
+    "b1c2b2eec9c43d5c9a44608d3b19bd8e18f6d69723e846e2e3d49ce022127242"
+    "9da555b126ea9b4128c3dfa68ada57f6df56c5f538201f472092f0296101b0a9";
+
 /*
  * Lends small.img, opened with the key of its volume 2, and everything else that a call takes; keeps all that. The tape
  * is long enough to format the device with that key.
@@ -1061,6 +1137,7 @@ static int open_small(struct bench *bench)
 {
     const hiwalgam_geometry geometry = { SMALL_B, 4, 4 };
     const uint32_t permutation[4] = { 2, 0, 3, 1 };
+    const uint64_t count = SMALL_P;
 
     lend_empty_state(bench);
     lend_file(bench, DEVICE, "small.img");
@@ -1068,6 +1145,7 @@ static int open_small(struct bench *bench)
     lend_hex(bench, KEY, "209cf0aaac756d3e4868bdc62bb3bf4525de822d1cb4d63976e454b4c93b2794");
     lend(bench, GEOMETRY, &geometry, sizeof geometry);
     lend(bench, PERMUTATION, permutation, sizeof permutation);
+    lend(bench, COUNTS, &count, sizeof count);
     lend_filled(bench, MAPS, HIWALGAM_VOLUMES * 4 * sizeof(uint32_t), UNSET_BYTE);
     lend_filled(bench, OWNERS, 4, UNSET_BYTE);
     lend_filled(bench, TEXT, SMALL_B, 't');
@@ -1075,7 +1153,7 @@ static int open_small(struct bench *bench)
     lend_filled(bench, WRITTEN, sizeof(hiwalgam_written), UNSET_BYTE);
     bench->volume = 0;
     bench->address = SMALL_MAPPED;
-    bench->count = 1;
+    bench->volumes = 1;
     check_answer(bench, OPEN, HIWALGAM_SERVED);
     keep_all(bench);
     check_answer(bench, FORMAT, HIWALGAM_SERVED);
@@ -1093,13 +1171,14 @@ static void lend_resized(struct bench *bench, int part, size_t size)
     free(bytes.at);
 }
 
-/* Among them that of a session without a start place. */
-enum { SIZES = 5 };
+/* Among them that without the last number, and that of a session without counts. */
+enum { SIZES = 6 };
 
 static size_t other_size(const struct bench *bench, int part, int which)
 {
     size_t right = bench->parts[part].kept.length;
-    const size_t sizes[SIZES] = { 0, right - sizeof(uint64_t), right - 1, right + 1, 2 * right };
+    size_t beginning = part == SESSION ? offsetof(hiwalgam_session, counts) : sizeof(uint64_t);
+    const size_t sizes[SIZES] = { 0, beginning, right - sizeof(uint64_t), right - 1, right + 1, 2 * right };
     return sizes[which];
 }
 
@@ -1118,7 +1197,7 @@ static void lend_all_wrong(struct bench *bench, int function)
     }
     bench->volume = UINT64_MAX;
     bench->address = UINT64_MAX;
-    bench->count = 0;
+    bench->volumes = SIZE_MAX;
 }
 
 static void case_size(struct bench *bench, int function, int part, int which, int all_wrong)
@@ -1126,7 +1205,7 @@ static void case_size(struct bench *bench, int function, int part, int which, in
     put_all_back(bench);
     bench->volume = 0;
     bench->address = SMALL_MAPPED;
-    bench->count = 1;
+    bench->volumes = 1;
     if (all_wrong) lend_all_wrong(bench, function);
     lend_resized(bench, part, other_size(bench, part, which));
     if (function == WRITE && part == SESSION) expect_zeros(bench, WRITTEN);
@@ -1173,7 +1252,7 @@ static const struct refusal NULL_REFUSALS[] = {
     { WRITE, SESSION, 13 }, { WRITE, WRITTEN, 13 }, { WRITE, DEVICE, 2 }, { WRITE, MAPS, 4 }, { WRITE, OWNERS, 4 },
     { WRITE, PERMUTATION, 5 }, { WRITE, TEXT, 13 }, { WRITE, TAPE, 21 },
     { CLOSE, SESSION, 13 }, { CLOSE, DEVICE, 2 }, { CLOSE, MAPS, 4 }, { CLOSE, OWNERS, 4 }, { CLOSE, TAPE, 21 },
-    { FORMAT, GEOMETRY, 13 }, { FORMAT, DEVICE, 2 }, { FORMAT, KEY, 3 }, { FORMAT, TAPE, 21 }
+    { FORMAT, GEOMETRY, 13 }, { FORMAT, COUNTS, 1 }, { FORMAT, DEVICE, 2 }, { FORMAT, KEY, 3 }, { FORMAT, TAPE, 21 }
 };
 
 static size_t answer_with_null(int function, unsigned nulls)
@@ -1184,19 +1263,26 @@ static size_t answer_with_null(int function, unsigned nulls)
     return SMALL_B; /* a find without `out` */
 }
 
-/* A formatting without any key, count 0, is refused by 23 where no earlier refusal applies. */
-static void case_null(struct bench *bench, int function, unsigned nulls, uint64_t address, size_t count)
+/* A formatting of no volume: with the count that is lent it is refused by 1, with no count by 2 or by 23. */
+static size_t answer_without_volume(unsigned nulls)
+{
+    if ((nulls & BIT(GEOMETRY)) != 0) return HIWALGAM_WRONG_LENGTH;
+    if ((nulls & BIT(COUNTS)) == 0) return HIWALGAM_BAD_GEOMETRY;
+    return (nulls & BIT(DEVICE)) != 0 ? HIWALGAM_DEVICE_LENGTH : HIWALGAM_KEY_COUNT;
+}
+
+static void case_null(struct bench *bench, int function, unsigned nulls, uint64_t address, size_t volumes)
 {
     size_t answer = answer_with_null(function, nulls);
     int claim = function == WRITE && address == SMALL_UNMAPPED;
 
-    if (function == FORMAT && count == 0 && (nulls & (BIT(GEOMETRY) | BIT(DEVICE))) == 0) answer = HIWALGAM_KEY_COUNT;
+    if (function == FORMAT && volumes == 0) answer = answer_without_volume(nulls);
     for (int part = 0; part < PARTS; part++) {
         put_back(bench, part);
         if ((nulls & BIT(part)) != 0) lend_null(bench, part);
     }
     bench->address = address;
-    bench->count = count;
+    bench->volumes = volumes;
     if (function == OPEN && answer != HIWALGAM_WRONG_LENGTH) expect_zeros(bench, SESSION);
     if (function == WRITE && (nulls & BIT(WRITTEN)) == 0)
         expect_written(bench, 0, 0, claim && answer == HIWALGAM_TAPE_SHORT ? SMALL_PROBES : 0);
@@ -1237,37 +1323,95 @@ static void group_closed(struct bench *bench)
         }
 }
 
-/* ---- Cases: start places -------------------------------------------------------------------------------------- */
+/* ---- Cases: every byte of a session --------------------------------------------------------------------------- */
+
+/* The numbers of a session by their first bytes. Volume v has its count at COUNTS_AT + 8 * v. */
+enum { VOLUME_AT = 24, OPEN_AT = 32, START_AT = 40, KEYS_AT = 48, COUNTS_AT = 528, SESSION_BYTES = 648 };
+
+/* Sets a number of eight bytes, the least significant first. */
+static void set_number(uint8_t *at, uint64_t number)
+{
+    for (int i = 0; i < 8; i++) at[i] = (uint8_t)(number >> 8 * i);
+}
+
+/* Expects a session with these numbers, keys and counts for the volumes 0, 1 .., and zeros in every other byte. */
+static void expect_session(struct bench *bench, const uint64_t *numbers, const char *keys, const uint64_t *counts,
+                           size_t volumes)
+{
+    struct bytes bytes = from_hex(keys);
+    uint8_t session[SESSION_BYTES];
+
+    memset(session, 0, sizeof session);
+    for (size_t i = 0; i < 6; i++) set_number(session + 8 * i, numbers[i]);
+    memcpy(session + KEYS_AT, bytes.at, bytes.length);
+    for (size_t i = 0; i < volumes; i++) set_number(session + COUNTS_AT + 8 * i, counts[i]);
+    expect(bench, SESSION, session, sizeof session);
+    free(bytes.at);
+}
 
 /* The fields of a session stand one behind the other, as code in other languages has them. */
 static void group_layout(struct bench *bench)
 {
+    const uint64_t numbers[6] = { SMALL_B, 4, SMALL_P, 2, 1, SMALL_START };
+    const uint64_t counts[3] = { SMALL_P, SMALL_P, SMALL_P };
+
     lend_empty_state(bench);
-    check(bench, sizeof(hiwalgam_session) == 528 && HIWALGAM_SESSION_BYTES == 528, "session", "has not 528 bytes");
+    check(bench, sizeof(hiwalgam_session) == 648 && HIWALGAM_SESSION_BYTES == 648, "session", "has not 648 bytes");
     check(bench, offsetof(hiwalgam_session, geometry) == 0, "geometry", "is not at 0");
     check(bench, offsetof(hiwalgam_session, volume) == 24, "volume", "is not at 24");
     check(bench, offsetof(hiwalgam_session, open) == 32, "open", "is not at 32");
     check(bench, offsetof(hiwalgam_session, start_place) == 40, "start_place", "is not at 40");
     check(bench, offsetof(hiwalgam_session, keys) == 48, "keys", "are not at 48");
+    check(bench, offsetof(hiwalgam_session, counts) == 528, "counts", "are not at 528");
     check(bench, sizeof(((hiwalgam_session *)NULL)->start_place) == 8, "start_place", "has not 8 bytes");
+    check(bench, sizeof(((hiwalgam_session *)NULL)->counts) == 120, "counts", "have not 8 bytes for each volume");
     if (!open_small(bench)) return;
-    check(bench, bytes_of(bench, SESSION)[40] == SMALL_START, "start_place", "is not what the opening found");
-    for (size_t i = 41; i < 48; i++)
-        check(bench, bytes_of(bench, SESSION)[i] == 0, "start_place", "has not its least significant byte first");
+    lend_filled(bench, SESSION, SESSION_BYTES, UNSET_BYTE);
+    expect_session(bench, numbers, SMALL_DATA_KEYS, counts, 3);
+    check_call(bench, OPEN, HIWALGAM_SERVED);
 }
 
-/* Sets the start place in the session that is lent, byte by byte, and expects it to stay. */
+/* Sets a number in the session that is lent, byte by byte, and expects it to stay. */
+static void lend_number(struct bench *bench, size_t at, uint64_t number)
+{
+    set_number(bytes_of(bench, SESSION) + at, number);
+    expect_as_lent(bench, SESSION);
+}
+
+/* Expects another number than is lent, and every other byte of the session as it is. */
+static void expect_number(struct bench *bench, size_t at, uint64_t number)
+{
+    expect_as_lent(bench, SESSION);
+    set_number(bench->parts[SESSION].expected.at + at, number);
+}
+
+/* Expects what a close makes of the session: closed and without keys, and every other byte as it is. */
+static void expect_closed(struct bench *bench)
+{
+    expect_number(bench, OPEN_AT, 0);
+    memset(bench->parts[SESSION].expected.at + KEYS_AT, 0, HIWALGAM_VOLUMES * HIWALGAM_KEY_BYTES);
+}
+
+/* A served call that leaves the session, but for what a close sets. The rest of what it sets is in the transcripts. */
+static void check_served(struct bench *bench, int function)
+{
+    if (function == CLOSE) expect_closed(bench);
+    check_answer(bench, function, function == FIND ? (size_t)SMALL_B : (size_t)HIWALGAM_SERVED);
+    for (int part = 0; part < PARTS; part++)
+        if (part != SESSION) expect_as_lent(bench, part);
+    compare(bench);
+}
+
+/* ---- Cases: start places -------------------------------------------------------------------------------------- */
+
 static void lend_start(struct bench *bench, uint64_t start_place)
 {
-    for (int i = 0; i < 8; i++) bytes_of(bench, SESSION)[40 + i] = (uint8_t)(start_place >> 8 * i);
-    expect_as_lent(bench, SESSION);
+    lend_number(bench, START_AT, start_place);
 }
 
-/* Expects another start place than is lent, and every other byte of the session as it is. */
 static void expect_start(struct bench *bench, uint64_t start_place)
 {
-    expect_as_lent(bench, SESSION);
-    for (int i = 0; i < 8; i++) bench->parts[SESSION].expected.at[40 + i] = (uint8_t)(start_place >> 8 * i);
+    expect_number(bench, START_AT, start_place);
 }
 
 /* What open_small keeps, with another start place, for a call on an address of volume 0. */
@@ -1372,14 +1516,7 @@ static void case_served(struct bench *bench, uint64_t start_place)
 {
     for (int function = READ; function <= CLOSE; function++) {
         lend_small(bench, start_place, SMALL_MAPPED);
-        check_answer(bench, function, function == FIND ? (size_t)SMALL_B : (size_t)HIWALGAM_SERVED);
-        if (function == CLOSE) {
-            bench->parts[SESSION].expected.at[32] = 0; /* `open` */
-            memset(bench->parts[SESSION].expected.at + 48, 0, HIWALGAM_VOLUMES * HIWALGAM_KEY_BYTES);
-        }
-        for (int part = 0; part < PARTS; part++)
-            if (part != SESSION) expect_as_lent(bench, part);
-        compare(bench);
+        check_served(bench, function);
     }
 }
 
@@ -1440,6 +1577,244 @@ static void group_start_above(struct bench *bench)
                 if (function == WRITE) expect_zeros(bench, WRITTEN);
                 check_call(bench, function, function == FIND ? 0 : HIWALGAM_NOT_OPEN);
             }
+}
+
+/* ---- Cases: counts -------------------------------------------------------------------------------------------- */
+
+/*
+ * counts.img: volume v has COUNTED[v] logical slices of three blocks, on a device of seven slices. The last of each has a
+ * slice. Address 0 of volume 0 has none, and a claim takes the slice at the session's start place.
+ */
+enum { COUNTED_S = 3, COUNTED_P = 7, COUNTED_VOLUMES = 4, COUNTED_START = 2, COUNTED_LENGTH = 60416 };
+
+static const uint64_t COUNTED[COUNTED_VOLUMES] = { 5, 1, 7, 3 };
+
+static const char COUNTED_DATA_KEYS[] =
+    "2249b181c97400d763689bce6c2596cd5339fe380ce83d4a3cdbfd78b158402d"
+    "9931888138f846d74b0be58734b56ae0ccb1a7fbaab0b6a692b7bfc22669c3a8"
+    "63de4c63b82f11f85f7cfc4649cd53cd4108ce2e305cc7ea6d32bfce232d6497"
+    "c271b218950e82385168fcfc660e7d18a576d20043a8e418e54c40c61cedbc59";
+
+/* Lends counts.img, opened with the key of its volume 3, and everything else that a call takes; keeps all that. */
+static int open_counted(struct bench *bench)
+{
+    const hiwalgam_geometry geometry = { SMALL_B, COUNTED_S, COUNTED_P };
+    const uint64_t numbers[6] = { SMALL_B, COUNTED_S, COUNTED_P, COUNTED_VOLUMES - 1, 1, COUNTED_START };
+    const uint32_t permutation[COUNTED_P] = { 3, 6, 2, 0, 5, 4, 1 };
+
+    lend_empty_state(bench);
+    lend_file(bench, DEVICE, "counts.img");
+    lend_file(bench, TAPE, "tapes.bin");
+    lend_hex(bench, KEY, "a41049ed71acdb991f516f37e2682ac76c867df210a373ee281a79536fcf0cda");
+    lend(bench, GEOMETRY, &geometry, sizeof geometry);
+    lend(bench, PERMUTATION, permutation, sizeof permutation);
+    lend_filled(bench, MAPS, HIWALGAM_VOLUMES * COUNTED_P * sizeof(uint32_t), UNSET_BYTE);
+    lend_filled(bench, OWNERS, COUNTED_P, UNSET_BYTE);
+    lend_filled(bench, SESSION, SESSION_BYTES, UNSET_BYTE);
+    lend_filled(bench, TEXT, SMALL_B, 't');
+    lend_filled(bench, BUFFER, SMALL_B, UNSET_BYTE);
+    lend_filled(bench, WRITTEN, sizeof(hiwalgam_written), UNSET_BYTE);
+    check_answer(bench, OPEN, HIWALGAM_SERVED);
+    expect_as_lent(bench, MAPS);
+    expect_as_lent(bench, OWNERS);
+    expect_session(bench, numbers, COUNTED_DATA_KEYS, COUNTED, COUNTED_VOLUMES);
+    compare(bench);
+    keep_all(bench);
+    return bench->failed == 0;
+}
+
+/* What open_counted keeps, with another count of one volume, for a call on an address of some volume. */
+static void lend_count(struct bench *bench, size_t row, uint64_t count, uint64_t volume, uint64_t address)
+{
+    put_all_back(bench);
+    lend_number(bench, COUNTS_AT + 8 * row, count);
+    bench->volume = volume;
+    bench->address = address;
+}
+
+/* A count of 0 or above P up to k: 20, with all else right and with all else wrong, and the session keeps its bytes. */
+static void group_bad_counts(struct bench *bench)
+{
+    const uint64_t counts[] = {
+        0, COUNTED_P + 1, 255, 256, 257, 0x10003, (uint64_t)1 << 32, ((uint64_t)1 << 32) + 1, (uint64_t)1 << 63,
+        ((uint64_t)1 << 63) + 7, UINT64_MAX
+    };
+    const int lists[] = { DEVICE, MAPS, OWNERS, PERMUTATION, TAPE, TEXT, BUFFER };
+
+    if (!open_counted(bench)) return;
+    for (size_t row = 0; row < COUNTED_VOLUMES; row++)
+        for (size_t i = 0; i < sizeof counts / sizeof *counts; i++)
+            for (int function = READ; function <= CLOSE; function++)
+                for (int wrong = 0; wrong < 2; wrong++) {
+                    lend_count(bench, row, counts[i], wrong ? UINT64_MAX : 2, 3 * COUNTED[2] - 1);
+                    for (size_t list = 0; wrong && list < sizeof lists / sizeof *lists; list++)
+                        lend_null(bench, lists[list]);
+                    if (function == WRITE) expect_zeros(bench, WRITTEN);
+                    check_call(bench, function, function == FIND ? 0 : HIWALGAM_NOT_OPEN);
+                }
+}
+
+/* Claims leave the counts too: one that is served, and one that finds no slice. */
+static void case_claims_and_counts(struct bench *bench, size_t row, uint64_t count)
+{
+    lend_count(bench, row, count, 0, 0);
+    expect_start(bench, COUNTED_START + 1);
+    check_served(bench, WRITE);
+
+    lend_count(bench, row, count, 0, 0);
+    lend_filled(bench, OWNERS, COUNTED_P, 200);
+    expect_start(bench, COUNTED_P);
+    expect_written(bench, 0, 0, COUNTED_P - COUNTED_START);
+    check_call(bench, WRITE, HIWALGAM_NO_FREE_SLICE);
+}
+
+/* Above k any count may stand: the calls are served, and leave it, a close too. An opening sets 0 again. */
+static void group_counts_above(struct bench *bench)
+{
+    const uint64_t counts[] = { 1, COUNTED_P, COUNTED_P + 1, UINT64_MAX };
+
+    if (!open_counted(bench)) return;
+    for (size_t row = COUNTED_VOLUMES; row < HIWALGAM_VOLUMES; row++)
+        for (size_t i = 0; i < sizeof counts / sizeof *counts; i++) {
+            for (int function = READ; function <= CLOSE; function++) {
+                lend_count(bench, row, counts[i], 3, 3 * COUNTED[3] - 1);
+                check_served(bench, function);
+            }
+            case_claims_and_counts(bench, row, counts[i]);
+            lend_count(bench, row, counts[i], 0, 0);
+            expect_number(bench, COUNTS_AT + 8 * row, 0);
+            check_call(bench, OPEN, HIWALGAM_SERVED);
+        }
+}
+
+/* A block behind the end of a volume is 12 with every count that the session holds, a find of it empty; all stays. */
+static void case_behind_the_end(struct bench *bench, size_t volume, uint64_t count)
+{
+    const uint64_t behind[] = { 0, 1, COUNTED_S, (uint64_t)1 << 32, UINT64_MAX - COUNTED_S * count };
+
+    for (size_t i = 0; i < sizeof behind / sizeof *behind; i++)
+        for (int function = READ; function <= WRITE; function++) {
+            lend_count(bench, volume, count, volume, COUNTED_S * count + behind[i]);
+            if (function == WRITE) expect_zeros(bench, WRITTEN);
+            check_call(bench, function, function == FIND ? 0 : HIWALGAM_ADDRESS_ABOVE);
+        }
+}
+
+/*
+ * Every count that is allowed, in each row: the last block, those behind it, and a close, which is 9 where the entry of the
+ * last logical slice stands at the count or past it.
+ */
+static void group_ends(struct bench *bench)
+{
+    if (!open_counted(bench)) return;
+    for (size_t volume = 0; volume < COUNTED_VOLUMES; volume++)
+        for (uint64_t count = 1; count <= COUNTED_P; count++) {
+            lend_count(bench, volume, count, volume, COUNTED_S * count - 1);
+            check_served(bench, READ);
+            case_behind_the_end(bench, volume, count);
+            lend_count(bench, volume, count, volume, 0);
+            if (count >= COUNTED[volume]) check_served(bench, CLOSE);
+            else check_call(bench, CLOSE, HIWALGAM_BAD_ENTRY);
+        }
+}
+
+/* Lends what a formatting of so many volumes takes: key v is 32 bytes v + 1, count v is 1 + (first + 3 * v) modulo 7. */
+static void lend_volumes(struct bench *bench, size_t volumes, uint64_t first)
+{
+    put_all_back(bench);
+    lend_filled(bench, KEY, volumes * HIWALGAM_KEY_BYTES, 0);
+    lend_filled(bench, COUNTS, volumes * sizeof(uint64_t), 0);
+    for (size_t v = 0; v < volumes; v++) {
+        memset(bytes_of(bench, KEY) + v * HIWALGAM_KEY_BYTES, (int)v + 1, HIWALGAM_KEY_BYTES);
+        set_number(bytes_of(bench, COUNTS) + 8 * v, 1 + (first + 3 * v) % COUNTED_P);
+    }
+    expect_as_lent(bench, KEY);
+    expect_as_lent(bench, COUNTS);
+    bench->volumes = volumes;
+}
+
+/*
+ * Opens what was formatted with key v: every byte of the session. The data key of volume i is the tape's, behind the bytes
+ * that fill the device and 64 for each volume below.
+ */
+static void check_formatted(struct bench *bench, size_t v, const uint8_t *counts)
+{
+    const uint64_t numbers[6] = { SMALL_B, COUNTED_S, COUNTED_P, v, 1, 0 };
+
+    lend_filled(bench, KEY, HIWALGAM_KEY_BYTES, (int)v + 1);
+    lend_filled(bench, SESSION, SESSION_BYTES, UNSET_BYTE);
+    expect_session(bench, numbers, "", NULL, 0);
+    for (size_t i = 0; i <= v; i++) {
+        uint8_t *expected = bench->parts[SESSION].expected.at;
+        memcpy(expected + KEYS_AT + i * HIWALGAM_KEY_BYTES, bytes_of(bench, TAPE) + COUNTED_LENGTH + 64 * i + 32,
+               HIWALGAM_KEY_BYTES);
+        memcpy(expected + COUNTS_AT + 8 * i, counts + 8 * i, 8);
+    }
+    check_answer(bench, OPEN, HIWALGAM_SERVED);
+    lend_filled(bench, MAPS, length_of(bench, MAPS), 0xff);
+    lend_filled(bench, OWNERS, COUNTED_P, 0);
+    compare(bench);
+}
+
+static void case_formatting(struct bench *bench, size_t volumes, uint64_t first)
+{
+    uint8_t counts[HIWALGAM_VOLUMES * sizeof(uint64_t)];
+
+    lend_volumes(bench, volumes, first);
+    memcpy(counts, bytes_of(bench, COUNTS), length_of(bench, COUNTS));
+    check_served(bench, FORMAT);
+    for (size_t v = 0; v < volumes; v++) check_formatted(bench, v, counts);
+}
+
+/* A count that is not allowed, in each place; another number of counts than keys, also with no key and with 16. */
+static void case_refused_counts(struct bench *bench, size_t volumes)
+{
+    const uint64_t counts[] = { 0, COUNTED_P + 1, ((uint64_t)1 << 32) + 1, UINT64_MAX };
+
+    for (size_t v = 0; v < volumes; v++)
+        for (size_t i = 0; i < sizeof counts / sizeof *counts; i++) {
+            lend_volumes(bench, volumes, 0);
+            set_number(bytes_of(bench, COUNTS) + 8 * v, counts[i]);
+            expect_as_lent(bench, COUNTS);
+            check_call(bench, FORMAT, HIWALGAM_BAD_GEOMETRY);
+        }
+    for (size_t handed = 0; handed <= HIWALGAM_VOLUMES + 2; handed++) {
+        lend_volumes(bench, handed, 0);
+        lend_filled(bench, KEY, volumes * HIWALGAM_KEY_BYTES, 1);
+        bench->volumes = volumes;
+        if (handed != volumes) check_call(bench, FORMAT, HIWALGAM_BAD_GEOMETRY);
+    }
+    lend_volumes(bench, volumes, 0);
+    if (volumes == 0) lend_null(bench, COUNTS);
+    if (volumes == 0 || volumes > HIWALGAM_VOLUMES) check_call(bench, FORMAT, HIWALGAM_KEY_COUNT);
+}
+
+/* The count of one volume may be the geometry's own number of slices: both are const. */
+static void case_count_in_geometry(struct bench *bench)
+{
+    uint8_t count[8];
+
+    if (bench->placement == UNALIGNED) return; /* the geometry's numbers are not aligned there */
+    lend_volumes(bench, 1, 0);
+    lend_shared(bench, COUNTS, GEOMETRY, sizeof(uint64_t));
+    bench->parts[COUNTS].lent.at += offsetof(hiwalgam_geometry, slices);
+    expect_as_lent(bench, COUNTS);
+    set_number(count, COUNTED_P);
+    check_served(bench, FORMAT);
+    check_formatted(bench, 0, count);
+}
+
+static void group_formatting(struct bench *bench)
+{
+    const size_t refused[] = { 0, 1, 2, HIWALGAM_VOLUMES, HIWALGAM_VOLUMES + 1 };
+
+    if (!open_counted(bench)) return;
+    for (uint64_t first = 0; first < COUNTED_P; first++) case_formatting(bench, 1, first);
+    case_formatting(bench, 2, 6);
+    case_formatting(bench, HIWALGAM_VOLUMES, 0);
+    case_formatting(bench, HIWALGAM_VOLUMES, 4);
+    for (size_t i = 0; i < sizeof refused / sizeof *refused; i++) case_refused_counts(bench, refused[i]);
+    case_count_in_geometry(bench);
 }
 
 /* ---- Cases: ciphers ------------------------------------------------------------------------------------------- */
@@ -1862,10 +2237,13 @@ static const struct group GROUPS[] = {
     { "refusals.txt", run_transcript }, { "tables.txt", run_transcript }, { "above.txt", run_transcript },
     { "ignored.txt", run_transcript }, { "lengths.txt", run_transcript }, { "format.txt", run_transcript },
     { "format-sizes.txt", run_transcript }, { "format-refusals.txt", run_transcript },
-    { "lower-cells.txt", run_transcript }, { "start-places.txt", run_transcript },
+    { "lower-cells.txt", run_transcript }, { "start-places.txt", run_transcript }, { "counts.txt", run_transcript },
+    { "format-counts.txt", run_transcript },
     { "sizes of structs", group_struct_sizes }, { "NULL", group_null }, { "closed sessions", group_closed },
     { "layout of a session", group_layout }, { "start places", group_start_places },
-    { "start places above P", group_start_above },
+    { "start places above P", group_start_above }, { "bad counts", group_bad_counts },
+    { "counts above k", group_counts_above }, { "ends of volumes", group_ends },
+    { "counts of a formatting", group_formatting },
     { "published vectors", group_published }, { "wrong tags", group_wrong_tag }, { "cipher lengths", group_lengths },
     { "cipher NULL", group_cipher_null }, { "parts of a text", group_pieces }, { "far positions", group_positions },
     { "overlapping const", group_overlap }

@@ -1,9 +1,9 @@
 #!/usr/bin/env python3
 """Makes the images and transcripts of this folder.
 
-This script is a third witness beside the proved engine and the plain Rust build. It is written from the paper on format
+This script is a third witness beside the proved engine and the plain Rust build. It is written from the papers on format
 and requests alone, uses neither of the two, and its AES is somebody else's: that of the Python package `cryptography`.
-Whatever the two builds have in common, a misreading of the paper for example, shows where their answers differ from those
+Whatever the two builds have in common, a misreading of the papers for example, shows where their answers differ from those
 written here.
 
     python3 make.py            writes the files beside the script
@@ -19,6 +19,7 @@ tables, bytes and positions that follow from them.
 
 import functools
 import hashlib
+import itertools
 import os
 import sys
 from collections import namedtuple
@@ -236,9 +237,10 @@ class Image:
         associated = bytes([i]) if associated is None else associated
         return seal(self.key[i] if key is None else key, self.noise.take(12), self.vmk[i], associated)
 
-    def sealed_header(self, i, P=None, S=None, associated=None):
+    def sealed_header(self, i, N=None, S=None, associated=None):
+        """N is the volume's count of logical slices: P, unless another is given."""
         text = self.vek[i] + self.below[i]
-        text += number(self.g.P if P is None else P) + number(self.g.S if S is None else S)
+        text += number(self.g.P if N is None else N) + number(self.g.S if S is None else S)
         associated = bytes([16 + i]) if associated is None else associated
         return seal(self.vmk[i], self.noise.take(12), text, associated)
 
@@ -270,9 +272,9 @@ class Image:
             put(self.device, at, iv)
         put(self.device, self.g.data(psi, j), counter_mode(self.vek[i], bytes(self.device[at : at + 16]), text))
 
-    def put_volume(self, i, row, **other):
+    def put_volume(self, i, row, N=None, **other):
         self.put_cell(i)
-        self.put_header(i)
+        self.put_header(i, N=N)
         self.put_map(i, row, **other)
 
     def flip(self, at, bits):
@@ -281,11 +283,12 @@ class Image:
 
 # -------------------------------------------------------------------------------------------------- a model of the calls
 
-# The start place is the place of the permutation where a claim begins to look.
-Session = namedtuple("Session", "B S P k open start keys")
+# The start place is the place of the permutation where a claim begins to look. The counts are those of logical slices, one
+# for each volume, 0 above k.
+Session = namedtuple("Session", "B S P k open start counts keys")
 
 # What a refused opening hands back: closed, all numbers and keys 0.
-NO_SESSION = Session(0, 0, 0, 0, 0, 0, (NO_KEY,) * VOLUMES)
+NO_SESSION = Session(0, 0, 0, 0, 0, 0, (0,) * VOLUMES, (NO_KEY,) * VOLUMES)
 
 
 class Refused(Exception):
@@ -325,47 +328,48 @@ class Lent:
         return data
 
 
-def format_device(lent, count, keys):
-    """Makes a blank device with a volume for each key. The keys stand end to end."""
+def format_device(lent, volumes, keys, counts):
+    """Makes a blank device with a volume for each key, of as many logical slices as its count says. The keys stand end to
+    end."""
     g = lent.geometry
-    if not g.allowed():
+    if not g.allowed() or len(counts) != volumes or not all(1 <= N <= g.P for N in counts):
         raise Refused(1)
     if len(lent.device) != g.length:
         raise Refused(2)
-    if not 1 <= count <= VOLUMES:
+    if not 1 <= volumes <= VOLUMES:
         raise Refused(23)
-    if len(keys) != 32 * count:
+    if len(keys) != 32 * volumes:
         raise Refused(3)
-    key = [keys[32 * i : 32 * i + 32] for i in range(count)]
+    key = [keys[32 * i : 32 * i + 32] for i in range(volumes)]
 
     # Everything is drawn and sealed beside the device. A refusal gives back what was drawn.
     start = lent.position
     try:
         fill = lent.draw(g.length)
         vmk, vek = [], []
-        for _ in range(count):
+        for _ in range(volumes):
             vmk.append(lent.draw(32))
             vek.append(lent.draw(32))
-        cells = [seal(key[i], lent.draw(12), vmk[i], bytes([i])) for i in range(count)]
+        cells = [seal(key[i], lent.draw(12), vmk[i], bytes([i])) for i in range(volumes)]
         headers = []
-        for i in range(count):
+        for i in range(volumes):
             below = vmk[i - 1] if i > 0 else bytes(32)
-            header = seal(vmk[i], lent.draw(12), vek[i] + below + number(g.P) + number(g.S), bytes([16 + i]))
+            header = seal(vmk[i], lent.draw(12), vek[i] + below + number(counts[i]) + number(g.S), bytes([16 + i]))
             maps = []
             for _ in range(g.m):
                 iv = lent.draw(16)
                 maps.append(iv + counter_mode(vek[i], iv, number(MARK) * g.entries))
             headers.append((header, maps))
-        if any(unseal(key[i], cells[j], bytes([j])) is not None for i in range(count) for j in range(i)):
+        if any(unseal(key[i], cells[j], bytes([j])) is not None for i in range(volumes) for j in range(i)):
             raise Refused(24)
     except Refused:
         lent.position = start
         raise
-    assert lent.position - start == g.length + count * (88 + 16 * g.m)
+    assert lent.position - start == g.length + volumes * (88 + 16 * g.m)
 
     file, offset = lent.tape_place
     lent.store(0, fill, f"{file} {offset + start}")
-    for i in range(count):
+    for i in range(volumes):
         lent.store(g.cell(i), cells[i])
     for i, (header, maps) in enumerate(headers):
         lent.store(g.header(i), header)
@@ -400,15 +404,16 @@ def open_device(lent, key):
         vmk = unseal(key, device[g.cell(k) : g.cell(k) + CELL], bytes([k]))
         k += vmk is None
 
-    # Header k gives the VMK below, down to 0.
+    # Header k gives the VMK below, down to 0. The first number after the keys is the volume's count of logical slices.
     keys = [NO_KEY] * VOLUMES
+    counts = [0] * VOLUMES
     for i in range(k, -1, -1):
         text = unseal(vmk, device[g.header(i) : g.header(i) + HEADER], bytes([16 + i]))
         if text is None:
             raise Refused(7)
-        if number_at(text, 64) != g.P or number_at(text, 68) != g.S:
+        keys[i], vmk, counts[i] = text[:32], text[32:64], number_at(text, 64)
+        if not 1 <= counts[i] <= g.P or number_at(text, 68) != g.S:
             raise Refused(8)
-        keys[i], vmk = text[:32], text[32:64]
 
     # Then the maps are read, volume 0 to k, entry by entry.
     maps = list(lent.maps)
@@ -422,7 +427,7 @@ def open_device(lent, key):
             entry = number_at(entries, 4 * sigma)
             if entry == MARK:
                 continue
-            if entry >= g.P:
+            if entry >= g.P or sigma >= counts[i]:
                 raise Refused(9)
             if owners[entry] != 0:
                 raise Refused(10)
@@ -435,7 +440,7 @@ def open_device(lent, key):
         start += 1
 
     lent.maps, lent.owners = maps, owners
-    lent.session = Session(g.B, g.S, g.P, k, 1, start, tuple(keys))
+    lent.session = Session(g.B, g.S, g.P, k, 1, start, tuple(counts), tuple(keys))
     return k
 
 
@@ -444,6 +449,8 @@ def standing(lent):
     session = lent.session
     g = Geometry(session.B, session.S, session.P)
     if session.open != 1 or not g.allowed() or session.k > 14 or session.start > g.P:
+        raise Refused(20)
+    if not all(1 <= N <= g.P for N in session.counts[: session.k + 1]):
         raise Refused(20)
     if len(lent.device) != g.length:
         raise Refused(2)
@@ -456,7 +463,7 @@ def asked(lent, g, volume, address, length):
     """What read and write refuse next: 11, 12, 13, 9. Gives the place of the asked entry, the entry, and the offset."""
     if volume > lent.session.k:
         raise Refused(11)
-    if address >= g.P * g.S:
+    if address >= lent.session.counts[volume] * g.S:
         raise Refused(12)
     if length != g.B:
         raise Refused(13)
@@ -527,12 +534,14 @@ def write(lent, volume, address, text):
 
 def close(lent):
     """Writes the maps of volumes 0 to k in order, each block with a fresh IV, and wipes tables and keys. The session's
-    numbers stay, and so does its start place."""
+    numbers stay, its start place and its counts too."""
     g = standing(lent)
     session = lent.session
     rows = [lent.maps[i * g.P : (i + 1) * g.P] for i in range(session.k + 1)]
-    if any(entry != MARK and entry >= g.P for row in rows for entry in row):
-        raise Refused(9)
+    for i, row in enumerate(rows):
+        for sigma, entry in enumerate(row):
+            if entry != MARK and (entry >= g.P or sigma >= session.counts[i]):
+                raise Refused(9)
     ivs = lent.draw(16 * g.m * (session.k + 1))
     for i, row in enumerate(rows):
         whole = row + [MARK] * (g.m * g.entries - g.P)
@@ -587,12 +596,32 @@ def hexed(data):
     return data.hex() if data else "-"
 
 
+def counts_word(counts):
+    """All counts with commas between them, four or more that are alike as COUNT*TIMES; `-` for none."""
+    runs = [(count, len(list(run))) for count, run in itertools.groupby(counts)]
+    return ",".join(f"{count}*{times}" if times > 3 else ",".join([str(count)] * times) for count, times in runs) or "-"
+
+
+def counts_of(word):
+    counts = []
+    for run in word.split(",") if word != "-" else []:
+        count, _, times = run.partition("*")
+        counts += [int(count)] * int(times or 1)
+    return counts
+
+
+def cut(items, last):
+    """Without those at the end that are `last`."""
+    items = list(items)
+    while items and items[-1] == last:
+        items.pop()
+    return items
+
+
 def session_words(session):
-    """The numbers, then the keys of volumes 0, 1 .. up to the last one that is not zeros."""
-    keys = list(session.keys)
-    while keys and keys[-1] == NO_KEY:
-        keys.pop()
-    return words(list(session[:6]) + [key.hex() for key in keys])
+    """The numbers, then counts and keys of volumes 0, 1 .. up to the last one that is not 0."""
+    keys = [key.hex() for key in cut(session.keys, NO_KEY)]
+    return words(list(session[:6]) + [counts_word(cut(session.counts, 0))] + keys)
 
 
 def apply(lent, line):
@@ -612,8 +641,11 @@ def apply(lent, line):
             put(lent.device, numbers[0], data)
         return
     if kind == "session":
-        keys = [bytes.fromhex(key) for key in rest[6:]]
-        lent.session = Session(*[int(n) for n in rest[:6]], tuple(keys + [NO_KEY] * (VOLUMES - len(keys))))
+        keys = [bytes.fromhex(key) for key in rest[7:]]
+        counts = counts_of(rest[6])
+        assert len(counts) <= VOLUMES and all(0 <= N < LARGEST for N in counts), line
+        counts, keys = counts + [0] * (VOLUMES - len(counts)), keys + [NO_KEY] * (VOLUMES - len(keys))
+        lent.session = Session(*[int(n) for n in rest[:6]], tuple(counts), tuple(keys))
         return
     values = [MARK if word == "-" else int(word) for word in rest]
     assert all(0 <= value < LARGEST for value in values), line
@@ -636,13 +668,17 @@ def apply(lent, line):
         lent.permutation = values
     elif kind == "start":
         lent.session = lent.session._replace(start=values[0])
+    elif kind == "count":
+        counts = list(lent.session.counts)
+        counts[values[0]] = values[1]
+        lent.session = lent.session._replace(counts=tuple(counts))
     else:
         assert kind == "position", line
         lent.position = values[0]
 
 
-# An open session that is none of the device's. No number of it is 0.
-OTHER_SESSION = f"4096 3 2 1 1 1 {Noise('no session').take(32).hex()}"
+# An open session that is none of the device's. No number of it is 0, nor is a count of it, also above its k.
+OTHER_SESSION = f"4096 3 2 1 1 1 2,1,2,1,2,1,2,1,2,1,2,1,2,1,2 {Noise('no session').take(32).hex()}"
 
 
 class Transcript:
@@ -712,19 +748,27 @@ class Transcript:
         """The session's start place now, as a hand worked it out. Lines of the transcript have it already."""
         assert self.lent.session.start == place, f"{self.name}: start place {self.lent.session.start}, not {place}"
 
-    def format(self, keys, expected, count=None):
-        """With a list of keys, or with the bytes of all and the count."""
+    def holds(self, *counts):
+        """The session's counts now, as a hand worked them out: those of volumes 0, 1 .., and 0 for all above."""
+        wanted = counts + (0,) * (VOLUMES - len(counts))
+        assert self.lent.session.counts == wanted, f"{self.name}: counts {self.lent.session.counts}, not {wanted}"
+
+    def format(self, keys, expected, volumes=None, counts=None):
+        """With a list of keys, or with the bytes of all and the number of volumes. The counts are P, unless others are
+        given."""
         self.begin()
-        if count is None:
-            count, keys = len(keys), b"".join(keys)
+        if volumes is None:
+            volumes, keys = len(keys), b"".join(keys)
+        if counts is None:
+            counts = [self.lent.geometry.P] * volumes
         thens = []
         try:
-            format_device(self.lent, count, keys)
+            format_device(self.lent, volumes, keys, counts)
             outcome = "0"
             thens = [f"position {self.lent.position}"]
         except Refused as refused:
             outcome = str(refused.number)
-        self.called(f"format {count} {hexed(keys)}", expected, outcome, thens)
+        self.called(f"format {volumes} {hexed(keys)} {counts_word(counts)}", expected, outcome, thens)
 
     def open(self, key, expected):
         self.spoil()
@@ -1074,7 +1118,7 @@ def refusals():
 
     short = small_text(0, 4)[:1023]
     some = small_text(0, 4)
-    served = f"session 1024 4 4 1 1 3 {image.vek[0].hex()} {image.vek[1].hex()}"
+    served = f"session 1024 4 4 1 1 3 4,4 {image.vek[0].hex()} {image.vek[1].hex()}"
     t.say("The other calls, with volumes 0 and 1 open.")
     t.open(key[1], "0 1")
     t.starts(2)
@@ -1086,7 +1130,7 @@ def refusals():
     t.given("permutation 0 0 0")
     t.given("position 4097")
     for session in (
-        served.replace(" 1 1 3 ", " 1 0 3 "), served.replace(" 1 1 3 ", " 1 0 5 "), "session 0 0 0 0 0 0",
+        served.replace(" 1 1 3 ", " 1 0 3 "), served.replace(" 1 1 3 ", " 1 0 5 "), "session 0 0 0 0 0 0 -",
         served.replace(" 1 1 3 ", " 1 1 5 "), served.replace(" 1 1 3 ", " 1 1 18446744073709551615 "),
         served.replace(" 1 1 3 ", " 1 1 4294967296 "), served.replace(" 1 1 3 ", " 1 1 4294967299 "),
         served.replace(" 1 1 3 ", " 1 1 257 "), served.replace(" 1 1 3 ", " 1 1 9223372036854775808 "),
@@ -1275,14 +1319,14 @@ def tables():
     t.given("owners 2 0 1 3")
     t.given("permutation 0 1 2 3")
     all_keys = [vek.hex() for vek in image.vek]
-    t.given(f"session 1024 4 4 1 1 4 {words(all_keys)}")
+    t.given(f"session 1024 4 4 1 1 4 4,4 {words(all_keys)}")
     t.reads((0, 4, small_text(0, 4)), (1, 13, small_text(1, 13)))
     t.read(2, 0, "11")
-    t.given(f"session 1024 4 4 1 1 2 {words([all_keys[1], all_keys[0]])}")
+    t.given(f"session 1024 4 4 1 1 2 4,4 {words([all_keys[1], all_keys[0]])}")
     t.read(0, 7, "0")
     t.write(0, 7, some, "0 rewritten 2 0")
     t.reads((0, 7, some))
-    t.given(f"session 1024 4 4 0 1 0 {words(all_keys)}")
+    t.given(f"session 1024 4 4 0 1 0 4 {words(all_keys)}")
     t.write(0, 0, some, "0 claimed 1 2")
     t.read(1, 13, "11")
     t.close("0")
@@ -1293,7 +1337,7 @@ def tables():
     t.given("row 1 - - 3 0")
     t.given("row 2 3 - - -")
     t.given("owners 2 1 1 3")
-    t.given(f"session 1024 4 4 2 1 3 {words(all_keys[:3])}")
+    t.given(f"session 1024 4 4 2 1 3 4,4,4 {words(all_keys[:3])}")
     t.close("0")
     t.open(image.key[1], "0 1")
     t.open(image.key[2], "10")
@@ -1302,7 +1346,7 @@ def tables():
     t.given("device small.img 52224")
     t.given("maps 60 -")
     t.given("owners 0 0 0 0")
-    t.given(f"session 1024 4 4 14 1 0 {words(all_keys[:3])}")
+    t.given(f"session 1024 4 4 14 1 0 4*15 {words(all_keys[:3])}")
     t.write(14, 7, some, "0 claimed 0 1")
     t.write(3, 7, other, "0 claimed 1 1")
     t.reads((14, 7, some), (3, 7, other), (14, 6, None), (2, 7, None))
@@ -1575,9 +1619,9 @@ def damaged():
     t.open(key[2], "8")
     t.open(key[1], "8")
     t.open(key[0], "7")
-    t.say("Other numbers in header 1: P too large by one, 0, the largest; S 0, 3, 4 in another byte.")
-    for numbers in ({"P": 5}, {"P": 0}, {"P": MARK}, {"P": 4 << 24}, {"P": (1 << 16) + 4}, {"S": 0}, {"S": 3}, {"S": 4 << 24},
-                    {"S": (1 << 16) + 4}, {"P": 5, "S": 5}):
+    t.say("Other numbers in header 1: a count above P by one, 0, the largest; S 0, 3, 4 in another byte.")
+    for numbers in ({"N": 5}, {"N": 0}, {"N": MARK}, {"N": 4 << 24}, {"N": (1 << 16) + 4}, {"S": 0}, {"S": 3}, {"S": 4 << 24},
+                    {"S": (1 << 16) + 4}, {"N": 5, "S": 5}):
         t.given_bytes(g.header(1), image.sealed_header(1, **numbers))
         t.open(key[2], "8")
         t.open(key[1], "8")
@@ -1721,7 +1765,8 @@ def lengths():
     t.given("device two-maps.img 245760")
     t.open(short, "2")
 
-    t.say("The first part of two-maps.img with one map block, where header 0 begins at the same place: its P is 257, not 252.")
+    t.say("The first part of two-maps.img with one map block, where header 0 begins at the same place: its count of 257 is",
+          "above P, which is 252.")
     g = Geometry(1024, 1, 252)
     t.given(f"geometry {words(g)}")
     t.given(f"device two-maps.img {g.length}")
@@ -1976,7 +2021,7 @@ def format_refusals():
     ):
         t.given(f"geometry {geometry}")
         t.format(b"", "1", 0)
-    t.format(key[0][:31], "1", 16)
+    t.format(key[0][:31], "1", 16, [])
     t.given(whole)
     t.given(f"tape {tape_words}")
     t.given("position 0")
@@ -2022,15 +2067,21 @@ def format_refusals():
     t.format(key[:16], "23")
     t.format(key[:17], "23")
     t.format([key[0]] * 16, "23")
-    for count in (16, 31, 255, 256, 257, 258, 2**16 + 1, 2**32, 2**32 + 1, 2**59, 2**59 + 1, 2**62 + 1, 2**63, 2**63 + 1,
-                  2**64 - 1):
-        t.format(b"", "23", count)
-        t.format(key[0], "23", count)
+    for volumes in (16, 31, 255, 256, 257, 258, 2**16 + 1):
+        t.format(b"", "23", volumes)
+        t.format(key[0], "23", volumes)
     t.format(b"".join(key[:15]), "23", 16)
-    t.format(b"".join(key[:2]), "23", 2**32 + 2)
     t.given("position 60001")
     t.format(key[:16], "23")
-    t.format(key[0], "23", 2**64 - 1)
+    t.say("So many keys that no list has a count for each are 1.")
+    for position in (60001, 0):
+        t.given(f"position {position}")
+        for volumes in (2**32, 2**32 + 1, 2**59, 2**59 + 1, 2**62 + 1, 2**63, 2**63 + 1, 2**64 - 1):
+            t.format(b"", "1", volumes, [])
+            t.format(key[0], "1", volumes, [4])
+        t.format(b"".join(key[:2]), "1", 2**32 + 2, [4, 4])
+        t.format(key[0], "1", 2**64 - 1, [4] * 15)
+    t.given("position 60001")
 
     t.say("3: not 32 bytes for each key. It comes before 21, and before 24.")
     for position in (60001, 0):
@@ -2456,7 +2507,7 @@ def start_places():
     t.read(0, 4, "20")
 
     t.say("A refused opening leaves 0, whatever it was.")
-    served = f"session 1024 4 4 1 1 4 {image.vek[0].hex()} {image.vek[1].hex()}"
+    served = f"session 1024 4 4 1 1 4 4,4 {image.vek[0].hex()} {image.vek[1].hex()}"
     for given, opener, answer in (
         ("geometry 1024 4 0", key[0], "1"), ("device small.img 52223", key[0], "2"), ("device small.img 52224", key[0][:31], "3"),
         ("owners 1 1 1", key[0], "4"), ("permutation 2 0 3 3", key[0], "5"), ("device no-cell.img 52224", key[0], "6"),
@@ -2468,6 +2519,811 @@ def start_places():
         t.given(given)
         t.open(opener, answer)
         t.starts(0)
+    t.finish()
+
+
+# Volumes of their own length: counts of logical slices that are P, 1, and between.
+COUNTED = Geometry(1024, 3, 7)
+COUNTS = (5, 1, 7, 3)
+
+# The last block of each volume, by hand: 3 blocks for each logical slice, the first with address 0.
+LAST = (14, 2, 20, 8)
+
+# Slices and free ones in this order: 3 of volume 1, 6 and 0 of volume 0, 5 of volume 2, 1 of volume 3; 2 and 4 are free.
+COUNTED_PERMUTATION = [3, 6, 2, 0, 5, 4, 1]
+COUNTED_ROWS = (
+    [MARK, 0, MARK, MARK, 6, MARK, MARK],
+    [3, MARK, MARK, MARK, MARK, MARK, MARK],
+    [MARK, MARK, MARK, MARK, MARK, MARK, 5],
+    [MARK, MARK, 1, MARK, MARK, MARK, MARK],
+)
+COUNTED_BLOCKS = {(0, 3): (0, 0), (0, 14): (6, 2), (1, 0): (3, 0), (1, 2): (3, 2), (2, 18): (5, 0), (2, 20): (5, 2),
+                  (3, 6): (1, 0), (3, 8): (1, 2)}
+
+
+def counted_text(volume, address, version="first"):
+    return text(f"counts, {version} text of block {address} of volume {volume}", 1024)
+
+
+def counted_image():
+    """Volumes 0 to 3. The last logical slice of each is mapped, by volumes 0 and 1 to a slice that is not below their
+    count. Past the P entries stand slices and numbers that are none."""
+    image = Image("counts.img", COUNTED)
+    past = {0: [7, 6, 2, 0], 1: [3, 3], 3: [MARK - 1, 4, 5]}
+    for i, row in enumerate(COUNTED_ROWS):
+        image.put_volume(i, row, N=COUNTS[i], past=past.get(i, ()))
+    for volume, slices in ((0, (0, 6)), (1, (3,)), (2, (5,)), (3, (1,))):
+        for psi in slices:
+            for j in range(3):
+                image.put_block(volume, psi, j, bytes(1024))
+    for (volume, address), (psi, j) in COUNTED_BLOCKS.items():
+        image.put_block(volume, psi, j, counted_text(volume, address))
+    return image
+
+
+COUNTED_WHOLE = "device counts.img 60416"
+SOME_COUNTED = counted_text(0, 0, "some")
+LAST_TEXTS = [(volume, last, counted_text(volume, last)) for volume, last in enumerate(LAST)]
+
+
+def counts():
+    """Volumes of their own length, in all calls but formatting."""
+    image = counted_image()
+    FILES["counts.img"] = bytes(image.device)
+    t = Transcript(
+        "counts.txt",
+        "Volumes of their own length: volumes 0 to 3 have 5, 1, 7 and 3 logical slices of 3 blocks, on a device of 7 slices.",
+    )
+    t.lend("counts.img", COUNTED, COUNTED_PERMUTATION, tape("counts", 4608), 0)
+    counts_in_sessions(t, image)
+    counts_in_headers(t, image)
+    counts_and_entries(t, image)
+    counts_at_close(t, image)
+    counts_not_allowed(t, image)
+    counts_of_two_maps(t)
+    t.finish()
+
+
+def counts_in_sessions(t, image):
+    """What openings give, and what the other calls make of it."""
+    key, whole, some, last_texts = image.key, COUNTED_WHOLE, SOME_COUNTED, LAST_TEXTS
+    full = f"session 1024 3 7 14 1 0 7*15 {words(vek.hex() for vek in image.vek)}"
+    t.say("Openings: the session holds the counts of volumes 0 to k, and 0 above. Before, no number and no key of it is 0.")
+    for i, held in enumerate(((5,), (5, 1), (5, 1, 7), (5, 1, 7, 3))):
+        t.given(full)
+        t.open(key[i], f"0 {i}")
+        t.holds(*held)
+        t.starts((0, 2, 2, 2)[i])
+        t.reads(*last_texts[: i + 1])
+        for volume in range(i + 1):
+            t.read(volume, LAST[volume] + 1, "12")
+        t.read(i + 1, 21, "11")
+    t.say("A refused one leaves none.")
+    t.given(full)
+    t.open(NO_KEY, "6")
+    t.holds()
+    t.given(full)
+    t.open(key[0][:31], "3")
+    t.holds()
+
+    t.say("The last block of each volume, and those behind it.")
+    t.open(key[3], "0 3")
+    for volume, place in enumerate((59392, 47104, 55296, 38912)):
+        last = LAST[volume]
+        t.find(volume, last, f"1024 {place}")
+        t.write(volume, last, counted_text(volume, last, "second"), f"0 rewritten {(6, 3, 5, 1)[volume]} 0")
+        t.reads((volume, last, counted_text(volume, last, "second")))
+        for address in (last + 1, last + 2, last + 3, last + 4, 21, 2**32, 2**32 + last, 2**63, 2**64 - 1):
+            t.read(volume, address, "12")
+            t.find(volume, address, "0")
+            t.write(volume, address, some, "12 0")
+    t.say("12 comes before 13 and 9, and for a claim before 22 and 21. The entries past the counts are not looked at.")
+    for line in ("entry 0 5 2", "entry 0 6 7", "entry 1 1 4294967294", "entry 1 6 0", "entry 3 3 4", "entry 3 6 8",
+                 "owners 1 1 1 1 1 1 1", "position 4609"):
+        t.given(line)
+    for volume, address in ((0, 15), (0, 17), (0, 18), (0, 20), (1, 3), (1, 5), (1, 20), (3, 9), (3, 20)):
+        t.read(volume, address, "12", length=5)
+        t.read(volume, address, "12")
+        t.find(volume, address, "0")
+        t.write(volume, address, some[:1023], "12 0")
+        t.write(volume, address, some, "12 0")
+    t.say("Nor are they by calls on other blocks.")
+    for volume, address, _ in last_texts:
+        t.reads((volume, address, counted_text(volume, address, "second")))
+    t.reads((0, 0, None), (0, 12, None), (1, 1, None), (2, 0, None), (3, 7, None), (3, 5, None))
+    t.read(3, 8, "13", length=1023)
+    t.write(0, 0, some, "22 5")
+    t.starts(7)
+    t.holds(5, 1, 7, 3)
+
+    t.say("A session: claims, a rewrite, none free, a close. It holds the counts throughout, and after the close too.")
+    t.given(whole)
+    t.given("position 0")
+    t.open(key[3], "0 3")
+    t.starts(2)
+    t.write(3, 5, counted_text(3, 5), "0 claimed 2 1")
+    t.write(2, 2, counted_text(2, 2), "0 claimed 4 3")
+    t.starts(6)
+    t.write(0, 0, some, "22 1")
+    t.write(1, 3, some, "12 0")
+    t.write(1, 1, counted_text(1, 1), "0 rewritten 3 0")
+    t.holds(5, 1, 7, 3)
+    t.close("0")
+    t.holds(5, 1, 7, 3)
+    t.starts(7)
+    t.read(0, 3, "20")
+    t.find(0, 3, "0")
+    t.write(0, 3, some, "20 0")
+    t.close("20")
+    t.holds(5, 1, 7, 3)
+    t.say("Opening again gives the same counts and blocks.")
+    for i, held in enumerate(((5,), (5, 1), (5, 1, 7), (5, 1, 7, 3))):
+        t.open(key[i], f"0 {i}")
+        t.holds(*held)
+        t.reads(*last_texts[: i + 1])
+        for volume in range(i + 1):
+            t.read(volume, LAST[volume] + 1, "12")
+    t.reads((3, 5, counted_text(3, 5)), (2, 2, counted_text(2, 2)), (1, 1, counted_text(1, 1)), (3, 4, None), (2, 1, None))
+    t.say("A close by key 0 leaves what stands above.")
+    t.open(key[0], "0 0")
+    t.close("0")
+    t.holds(5)
+    t.open(key[3], "0 3")
+    t.holds(5, 1, 7, 3)
+    t.reads(*last_texts)
+
+
+def counts_in_headers(t, image):
+    """8, and the refusals before and behind it."""
+    g, key, whole, M = COUNTED, image.key, COUNTED_WHOLE, MARK
+    t.say("Headers, 8: a count of 0 or above P, or another S; in each header from k down. Above k it is not seen.")
+    t.given(whole)
+    for i in range(4):
+        for n, fault in enumerate((
+            {"N": 0}, {"N": 8}, {"S": 2}, {"N": 255}, {"N": 256}, {"N": (1 << 16) + 3}, {"N": 3 << 24}, {"N": 1 << 31},
+            {"N": MARK}, {"S": 0}, {"S": 4}, {"S": 7}, {"S": 3 << 24}, {"S": MARK}, {"N": 0, "S": 4}, {"N": 3, "S": 7},
+            {"N": 8, "S": 0},
+        )):
+            t.given_bytes(g.header(i), image.sealed_header(i, **{"N": COUNTS[i], **fault}))
+            for k in range(4) if n < 3 else (i,):
+                t.open(key[k], "8" if k >= i else f"0 {k}")
+                t.holds(*(() if k >= i else COUNTS[: k + 1]))
+        t.given(f"bytes {g.header(i)} counts.img {g.header(i)} {HEADER}")
+    t.open(key[3], "0 3")
+    t.say("On the way down 8 comes before a 7 further down, and a 7 before an 8 further down.")
+    wrong_tag = bytearray(image.sealed_header(1, N=1))
+    wrong_tag[-1] ^= 1
+    t.given_bytes(g.header(1), bytes(wrong_tag))
+    t.given_bytes(g.header(2), image.sealed_header(2, N=0))
+    t.given_bytes(g.header(0), image.sealed_header(0, N=8))
+    for k, answer in ((3, "8"), (2, "8"), (1, "7"), (0, "8")):
+        t.open(key[k], answer)
+    t.say("Both come before a 9 or a 10 in the maps.")
+    bad_map = image.enciphered_map(0, [0, 0, 7, MARK, MARK, 2, MARK])
+    t.given_bytes(g.map_block(0, 0), bad_map)
+    for k, answer in ((3, "8"), (2, "8"), (1, "7"), (0, "8")):
+        t.open(key[k], answer)
+    t.given(whole)
+    t.given_bytes(g.map_block(0, 0), bad_map)
+    t.given_bytes(g.header(2), image.sealed_header(2, N=0))
+    for k, answer in ((3, "8"), (2, "8"), (1, "10"), (0, "10")):
+        t.open(key[k], answer)
+    t.given(whole)
+
+    t.say("1 to 6 come before an 8 by the count, and before a 9 past it; without them it is that.")
+    past_map = image.enciphered_map(0, [M, 0, M, M, 6, 2, M])
+    headers = [image.sealed_header(0, N=N) for N in (0, 8, 5)]
+    good = (f"geometry {words(g)}", whole, "maps 105 2", "owners 9 9 9 9 9 9 9", f"permutation {words(COUNTED_PERMUTATION)}")
+    for line, opener, answers in (
+        ("geometry 1024 65 7", key[0], "111"), ("geometry 1024 3 4097", key[0], "111"),
+        ("device counts.img 60415", key[0], "222"), (whole, key[0][:31], "333"), ("maps 104 2", key[0], "444"),
+        ("owners 9 9 9 9 9 9", key[0], "444"),
+        ("permutation 3 6 2 0 5 4 4", key[0], "555"), (whole, NO_KEY, "666"), (whole, key[0], "889"), (whole, key[3], "889"),
+    ):
+        for sealed, answer in zip(headers, answers):
+            for given in good:
+                t.given(given)
+            t.given(line)
+            t.given_bytes(g.header(0), sealed)
+            t.given_bytes(g.map_block(0, 0), past_map)
+            t.open(opener, answer)
+            t.holds()
+    t.given(whole)
+
+
+def counts_and_entries(t, image):
+    """Maps at an opening: 9 and 10 at entries below the count, at it and behind it."""
+    g, key, whole, M = COUNTED, image.key, COUNTED_WHOLE, MARK
+    t.say("Every count from 1 to P in each header, where the only entry of the map is the last below the count; the first at",
+          "the count, or the last of all: both are 9. Slice 2, which is free, is mapped.")
+    maps = [[image.enciphered_map(i, [2 if n == sigma else MARK for n in range(7)]) for sigma in range(7)] for i in range(4)]
+    for i in range(4):
+        t.say(f"Volume {i}.")
+        for N in range(1, 8):
+            t.given_bytes(g.header(i), image.sealed_header(i, N=N))
+            t.given_bytes(g.map_block(i, 0), maps[i][N - 1])
+            t.open(key[3], "0 3")
+            t.holds(*COUNTS[:i], N, *COUNTS[i + 1 :])
+            t.find(i, 3 * N - 1, "1024 43008")
+            t.read(i, 3 * N, "12")
+            for sigma in sorted({N, 6} if N < 7 else ()):
+                t.given_bytes(g.map_block(i, 0), maps[i][sigma])
+                t.open(key[3], "9")
+                t.holds()
+        if i > 0:
+            t.say(f"The same with key {i}. Key {i - 1} does not see it.")
+            t.given_bytes(g.header(i), image.sealed_header(i, N=6))
+            t.open(key[i], "9")
+            t.open(key[i - 1], f"0 {i - 1}")
+            t.holds(*COUNTS[:i])
+        t.given(whole)
+    t.say("All marks.")
+    empty = [MARK] * 7
+    for N in range(1, 8):
+        for i in range(4):
+            t.given_bytes(g.header(i), image.sealed_header(i, N=(N + 2 * i) % 7 + 1))
+            t.given_bytes(g.map_block(i, 0), image.enciphered_map(i, empty))
+        t.open(key[3], "0 3")
+        t.holds(*((N + 2 * i) % 7 + 1 for i in range(4)))
+    t.given(whole)
+
+    t.say("The image's own maps with other counts: volume 0 maps its logical slices 1 and 4.")
+    for N, answer in ((1, "9"), (2, "9"), (4, "9"), (5, "0 3"), (6, "0 3"), (7, "0 3"), (8, "8"), (0, "8")):
+        t.given_bytes(g.header(0), image.sealed_header(0, N=N))
+        t.open(key[3], answer)
+        t.holds(*((N, 1, 7, 3) if answer == "0 3" else ()))
+    t.given(whole)
+
+    t.say("9 or 10 at the first bad entry. At the count or past it an entry that is not the mark is 9, also where its slice is",
+          "mapped already; below it, such a slice is 10.")
+    for i, row, answer in (
+        (0, [M, 0, M, M, 6, 0, M], "9"), (0, [M, 0, M, M, 6, 6, M], "9"), (0, [M, 0, M, M, 6, M, 6], "9"),
+        (0, [M, 0, M, M, 6, 2, M], "9"), (0, [M, 0, M, M, 6, M, 2], "9"), (0, [M, 0, M, M, 6, 7, M], "9"),
+        (0, [M, 0, M, M, 6, M - 1, M], "9"), (0, [M, 0, M, M, 6, M, 1 << 31], "9"), (0, [M, M, M, M, M, 0, M], "9"),
+        (0, [M, 0, 0, M, 6, M, M], "10"), (0, [M, 0, M, M, 0, M, M], "10"), (0, [M, 0, 0, M, 6, 6, M], "10"),
+        (0, [M, 0, 0, M, 6, 2, 7], "10"), (0, [6, 0, M, 7, 6, 6, M], "9"), (0, [M, 0, M, M, 7, 0, M], "9"),
+        (1, [3, 3, M, M, M, M, M], "9"), (1, [3, M, M, M, M, M, 3], "9"), (1, [3, 0, M, M, M, M, M], "9"),
+        (1, [M, 0, M, M, M, M, M], "9"), (1, [M, M, M, M, M, M, 2], "9"), (1, [0, M, M, M, M, M, M], "10"),
+        (1, [6, 6, M, M, M, M, M], "10"), (1, [6, 2, M, M, M, M, M], "10"), (1, [7, 6, M, M, M, M, M], "9"),
+        (2, [M, M, M, M, M, M, 0], "10"), (2, [M, M, M, M, M, M, 7], "9"), (2, [5, M, M, M, M, M, 5], "10"),
+        (2, [3, M, M, M, M, M, 7], "10"), (3, [M, M, 1, 1, M, M, M], "9"), (3, [M, M, 1, 5, M, M, M], "9"),
+        (3, [1, M, 1, 2, M, M, M], "10"), (3, [M, M, 5, 5, M, M, M], "10"), (3, [M, M, 1, M, M, M, 4], "9"),
+    ):
+        t.given_bytes(g.map_block(i, 0), image.enciphered_map(i, row))
+        t.open(key[3], answer)
+        t.holds()
+        t.given(f"bytes {g.map_block(i, 0)} counts.img {g.map_block(i, 0)} 1024")
+    t.say("Volume by volume, from 0 up: an entry past the count of one, a slice mapped twice by the other.")
+    past, twice = [M, 0, M, M, 6, M, 2], [M, 0, M, M, 6, M, M]
+    t.given_bytes(g.map_block(0, 0), image.enciphered_map(0, past))
+    t.given_bytes(g.map_block(1, 0), image.enciphered_map(1, [6, M, M, M, M, M, M]))
+    t.open(key[3], "9")
+    t.open(key[0], "9")
+    t.given_bytes(g.map_block(0, 0), image.enciphered_map(0, twice))
+    t.open(key[3], "10")
+    t.open(key[0], "0 0")
+    t.given_bytes(g.map_block(0, 0), image.enciphered_map(0, [M, 0, 0, M, M, M, M]))
+    t.given_bytes(g.map_block(1, 0), image.enciphered_map(1, [3, 2, M, M, M, M, M]))
+    t.open(key[3], "10")
+    t.open(key[0], "10")
+    t.given_bytes(g.map_block(0, 0), image.enciphered_map(0, twice))
+    t.open(key[3], "9")
+    t.open(key[1], "9")
+    t.open(key[0], "0 0")
+    t.say("Places past the last of the P entries are ignored, whatever stands there.")
+    t.given(whole)
+    for i in range(4):
+        t.given_bytes(g.map_block(i, 0), image.enciphered_map(i, COUNTED_ROWS[i] + [0, 7, MARK - 1, 6, 2]))
+    t.open(key[3], "0 3")
+    t.holds(5, 1, 7, 3)
+    t.reads(*LAST_TEXTS)
+    t.given(whole)
+
+
+def counts_at_close(t, image):
+    """Entries that a close judges, and counts that the caller changed."""
+    key, whole, some, last_texts = image.key, COUNTED_WHOLE, SOME_COUNTED, LAST_TEXTS
+    t.say("Close, 9: an entry at the count of its row or past it. It comes before 21, and every byte stays.")
+    t.open(key[3], "0 3")
+    t.given("position 4609")
+    for i, N in ((0, 5), (1, 1), (3, 3)):
+        for sigma in range(N, 7):
+            for entry in (2, 0, 7, MARK - 1) if sigma in (N, 6) else (4,):
+                t.given(f"entry {i} {sigma} {entry}")
+                t.close("9")
+            t.given(f"entry {i} {sigma} -")
+    t.close("21")
+    t.say("Below it, a slice that is named twice is none, and a number that is no slice is 9.")
+    for i, sigma in ((0, 4), (1, 0), (2, 6), (3, 2)):
+        t.given(f"entry {i} {sigma} 7")
+        t.close("9")
+        t.given(f"entry {i} {sigma} 0")
+        t.close("21")
+        t.given(f"entry {i} {sigma} {COUNTED_ROWS[i][sigma]}")
+    t.say("Rows above k are not judged: with key 1 open, the counts above are 0 and entries there are wiped.")
+    t.open(key[1], "0 1")
+    for line in ("row 2 2 7 - - - - 5", "row 3 - - - 4 - - 8", "row 14 0 1 2 3 4 5 6", "position 4577"):
+        t.given(line)
+    t.close("21")
+    t.given("position 4576")
+    t.close("0")
+    t.holds(5, 1)
+    t.open(key[3], "0 3")
+    t.holds(5, 1, 7, 3)
+    t.reads(*last_texts)
+
+    t.say("Counts that the caller lowers: blocks past them are 12, and a close is 9 while an entry stands there.")
+    t.given("position 0")
+    for i, lowered in ((0, (4, 3, 2, 1)), (2, (6, 5, 1)), (3, (2, 1))):
+        for N in lowered:
+            t.given(f"count {i} {N}")
+            t.read(i, LAST[i], "12")
+            t.find(i, LAST[i], "0")
+            t.write(i, LAST[i], some, "12 0")
+            t.read(i, 3 * N, "12", length=0)
+            t.reads((i, 3 * N - 1, None))
+            t.close("9")
+        t.reads(*(last_texts[:i] + last_texts[i + 1 :]))
+        t.given(f"count {i} {COUNTS[i]}")
+    t.say("With that entry the mark it is served. The counts stay as they are handed in; the next opening has the headers'.")
+    t.given("entry 2 6 -")
+    t.given("owner 5 0")
+    t.given("count 2 1")
+    t.write(2, 2, counted_text(2, 2, "third"), "0 claimed 2 1")
+    t.write(2, 3, some, "12 0")
+    t.close("0")
+    t.holds(5, 1, 1, 3)
+    t.open(key[3], "0 3")
+    t.holds(5, 1, 7, 3)
+    t.reads((2, 2, counted_text(2, 2, "third")), (2, 3, None), (2, 20, None), (0, 14, counted_text(0, 14)))
+
+    t.say("Counts that the caller raises: a claim past the header's count is served, and so is the close. The next opening is 9.")
+    t.given(whole)
+    t.open(key[3], "0 3")
+    t.given("position 0")
+    t.given("count 1 2")
+    t.reads((1, 3, None), (1, 5, None))
+    t.read(1, 6, "12")
+    t.write(1, 5, counted_text(1, 5), "0 claimed 2 1")
+    t.reads((1, 5, counted_text(1, 5)), (1, 4, None), (1, 2, counted_text(1, 2)))
+    t.find(1, 5, "1024 43008")
+    t.given("count 1 1")
+    t.close("9")
+    t.given("count 1 2")
+    t.close("0")
+    t.holds(5, 2, 7, 3)
+    for k, answer in ((3, "9"), (2, "9"), (1, "9"), (0, "0 0")):
+        t.open(key[k], answer)
+    t.say("Without a claim there, nothing comes of it.")
+    t.given(whole)
+    t.open(key[3], "0 3")
+    for i in range(4):
+        t.given(f"count {i} 7")
+    t.reads((0, 20, None), (1, 20, None), (3, 20, None), *last_texts)
+    t.read(0, 21, "12")
+    t.read(3, 21, "12")
+    t.close("0")
+    t.holds(7, 7, 7, 7)
+    t.open(key[3], "0 3")
+    t.holds(5, 1, 7, 3)
+
+
+def counts_not_allowed(t, image):
+    """20 by a count, and the refusals behind it."""
+    key, whole, some, last_texts = image.key, COUNTED_WHOLE, SOME_COUNTED, LAST_TEXTS
+    t.say("20: a count of 0 or above P in a row up to k, whatever volume is asked for. The session stays.")
+    t.given(whole)
+    t.given("position 0")
+    for k in (0, 1, 3):
+        t.open(key[k], f"0 {k}")
+        for row in range(k + 1):
+            for count in (0, 8):
+                t.given(f"count {row} {count}")
+                t.read(0, 3, "20")
+                t.read(k, LAST[k], "20")
+                t.find(0, 3, "0")
+                t.find(k, LAST[k], "0")
+                t.write(0, 0, some, "20 0")
+                t.write(k, LAST[k], some, "20 0")
+                t.close("20")
+            t.given(f"count {row} {COUNTS[row]}")
+        t.reads(*last_texts[: k + 1])
+    t.say("Counts that are right modulo 2^8, 2^16 or 2^32 are none the less above P.")
+    for row, right in ((0, 5), (3, 3)):
+        for count in (9, 2**8, 2**8 + right, 2**16 + right, 2**31, 2**32, 2**32 + right, 2**63, 2**63 + right, 2**64 - 1):
+            t.given(f"count {row} {count}")
+            t.read(2, 20, "20")
+            t.close("20")
+        t.given(f"count {row} {right}")
+    t.say("Above k any count is allowed, and stays: one row after the other, then all. The next opening sets 0.")
+    for k in (0, 3):
+        for row in range(k + 1, VOLUMES):
+            t.open(key[k], f"0 {k}")
+            t.given(f"count {row} {8 if row % 2 else 2**64 - 1}")
+            t.reads(last_texts[k])
+            if row not in (k + 1, 14):
+                continue
+            t.find(k, LAST[k], f"1024 {(59392, 47104, 55296, 38912)[k]}")
+            t.read(k + 1, 0, "11")
+            t.write(k + 1, 0, some, "11 0")
+            t.given("position 0")
+            t.write(k, LAST[k], counted_text(k, LAST[k]), f"0 rewritten {(6, 3, 5, 1)[k]} 0")
+            t.close("0")
+            assert t.lent.session.counts[row] == (8 if row % 2 else 2**64 - 1)
+        t.open(key[k], f"0 {k}")
+        t.holds(*COUNTS[: k + 1])
+    for row in range(4, VOLUMES):
+        t.given(f"count {row} {2**64 - row}")
+    t.given("position 0")
+    t.write(0, 0, some, "0 claimed 2 1")
+    t.write(0, 1, some, "0 rewritten 2 0")
+    t.close("0")
+    t.holds(*COUNTS, *(2**64 - row for row in range(4, VOLUMES)))
+    t.open(key[3], "0 3")
+    t.holds(*COUNTS)
+    t.say("A lower k: bad counts are then above it. A higher one: then they are not.")
+    t.given(whole)
+    served = f"session 1024 3 7 3 1 2 5,1,7,3 {words(vek.hex() for vek in image.vek[:4])}"
+    t.given(served.replace(" 3 1 2 5,1,7,3 ", " 0 1 2 5,0,8,0 "))
+    t.reads(last_texts[0])
+    t.read(1, 2, "11")
+    for k, answer in ((0, "0"), (1, "20"), (2, "20"), (3, "20"), (4, "20"), (14, "20")):
+        t.given(served.replace(" 3 1 2 5,1,7,3 ", f" {k} 1 2 5,0,8,0 "))
+        t.read(0, 3, answer)
+    for k, answer in ((3, "0"), (4, "20"), (13, "20"), (14, "20"), (15, "20"), (2**64 - 1, "20")):
+        t.given(served.replace(" 3 1 2 ", f" {k} 1 2 "))
+        t.read(0, 3, answer)
+        t.given(served.replace(" 3 1 2 5,1,7,3 ", f" {k} 1 2 5,1,7*13 "))
+        t.read(0, 3, "20" if k > 14 else "0")
+        t.read(1, 3, "20" if k > 14 else "12")
+
+    t.say("20 comes before 2, 4, 5, 11, 12, 13, 9, 22 and 21, one of them alone and all at once.")
+    for count, alone in ((0, "20"), (8, "20"), (3, None)):
+        for line, reading, writing, closing in (
+            ("device counts.img 60415", "2", "2 0", "2"), ("maps 104 -", "4", "4 0", "4"),
+            ("owners 1 5 0 2 0 4", "4", "4 0", "4"), ("permutation 3 6 2 0 5 4", None, "5 0", None),
+        ):
+            for restored in (whole, "maps 105 -", "owners 1 5 0 2 0 4 1", f"permutation {words(COUNTED_PERMUTATION)}",
+                             "position 0", served, f"count 3 {count}"):
+                t.given(restored)
+            t.given(line)
+            t.read(0, 3, alone or reading or "0")
+            t.write(0, 3, some, writing if alone is None else f"{alone} 0")
+            if alone or closing:
+                t.close(alone or closing)
+        for line in (whole, f"permutation {words(COUNTED_PERMUTATION)}", "position 4609", "entry 0 1 9",
+                     "owners 1 5 1 2 1 4 1"):
+            t.given(line)
+        t.read(4, 0, alone or "11")
+        t.write(4, 0, some, f"{alone or 11} 0")
+        t.read(0, 15, alone or "12")
+        t.write(0, 15, some, f"{alone or 12} 0")
+        t.read(0, 3, alone or "13", length=5)
+        t.write(0, 3, some[:5], f"{alone or 13} 0")
+        t.read(0, 3, alone or "9")
+        t.write(0, 3, some, f"{alone or 9} 0")
+        t.close(alone or "9")
+        t.write(0, 0, some, f"{alone} 0" if alone else "22 5")
+        t.given("entry 0 1 -")
+        t.given("owners 1 5 0 2 1 4 1")
+        t.given("start 0")
+        t.write(0, 0, some, f"{alone} 0" if alone else "21 3")
+        t.close(alone or "21")
+    for line in ("device counts.img 60415", "maps 104 9", "owners 1 5", "permutation 0 0 0", "position 4609"):
+        t.given(line)
+    for session in (
+        served.replace(" 5,1,7,3 ", " 0,1,7,3 "), served.replace(" 5,1,7,3 ", " 5,1,7,8 "), served.replace(" 5,1,7,3 ", " - "),
+        served.replace(" 3 1 2 5,1,7,3 ", " 3 0 2 5,1,7,8 "), served.replace(" 3 1 2 5,1,7,3 ", " 3 0 2 5,1,7,3 "),
+        served.replace(" 3 1 2 5,1,7,3 ", " 15 1 2 5,1,7,8 "), served.replace(" 3 1 2 5,1,7,3 ", " 3 1 8 5,1,7,0 "),
+        served.replace(" 3 1 2 5,1,7,3 ", " 3 1 8 5,1,7,3 "), served.replace("1024 3 7", "1024 65 7"),
+        served.replace("1024 3 7", "1024 3 0"), served.replace("1024 3 7", "1024 3 6"), served.replace("1024 3 7", "1024 3 4"),
+        served.replace("1024 3 7", "1024 3 4097").replace(" 5,1,7,3 ", " 0,1,7,3 "),
+        served.replace("1024 3 7", "2048 3 7").replace(" 5,1,7,3 ", " 5,1,7,9 "),
+    ):
+        t.given(session)
+        t.read(9, 21, "20", length=5)
+        t.find(0, 3, "0")
+        t.write(9, 21, some[:5], "20 0")
+        t.close("20")
+    t.say("The counts are judged by the session's own P: with one that is lower and no count above it, 2 is first.")
+    for session in (served, served.replace("1024 3 7", "1024 3 6").replace(" 5,1,7,3 ", " 5,1,6,3 "),
+                    served.replace("1024 3 7", "1024 3 8").replace(" 5,1,7,3 ", " 8,1,7,3 "),
+                    served.replace("1024 3 7", "4096 3 4096").replace(" 5,1,7,3 ", " 4096,1,7,3 ")):
+        t.given(session)
+        t.read(9, 21, "2", length=5)
+        t.find(0, 3, "0")
+        t.write(9, 21, some[:5], "2 0")
+        t.close("2")
+
+
+def counts_of_two_maps(t):
+    """Counts around the edge between two map blocks, entries 251 and 252, in volume 0 of two-maps.img."""
+    g = Geometry(1024, 1, 257)
+    image = Image("two-maps.img", g)
+    headers = {N: image.sealed_header(0, N=N) for N in (0, 1, 100, 251, 252, 253, 256, 257, 258)}
+    ivs = [image.noise.take(16), image.noise.take(16)]
+
+    def block(n, *mapped):
+        """A map block in which entry `mapped`, where there is one, is the slice of that number, and all others marks."""
+        entries = [sigma if sigma in mapped else MARK for sigma in range(252 * n, 252 * n + 252)]
+        return image.enciphered_map(0, entries, ivs[n])
+
+    t.say("Two map blocks: entries 0 to 251 in the first, 252 to 256 in the second. The only entry that is no mark, and the",
+          "count. Entry 257 is past the last and ignored.")
+    t.lend("two-maps.img", g, range(257), "tapes.bin 0 1024")
+    for mapped, answers in (
+        (0, {0: "8", 1: "0 0", 252: "0 0", 257: "0 0", 258: "8"}),
+        (99, {100: "0 0"}), (100, {100: "9", 251: "0 0"}), (250, {251: "0 0"}),
+        (251, {100: "9", 251: "9", 252: "0 0", 253: "0 0"}),
+        (252, {1: "9", 251: "9", 252: "9", 253: "0 0", 257: "0 0"}), (253, {252: "9", 253: "9", 256: "0 0"}),
+        (255, {253: "9", 256: "0 0"}), (256, {1: "9", 252: "9", 256: "9", 257: "0 0"}),
+        (257, {1: "0 0", 252: "0 0", 257: "0 0"}),
+    ):
+        for n in (0, 1):
+            t.given_bytes(g.map_block(0, n), block(n, mapped))
+        for N, answer in answers.items():
+            t.given_bytes(g.header(0), headers[N])
+            t.open(image.key[0], answer)
+            t.holds(*([N] if answer == "0 0" else []))
+            if answer == "0 0":
+                t.find(0, mapped, f"1024 {1024 * (46 + 2 * mapped + 1)}" if mapped < 257 else "0")
+                t.read(0, N, "12")
+                if N - 1 != mapped:
+                    t.reads((0, N - 1, None))
+    t.say("At a close: entry 251 or 252 with counts around it.")
+    t.open(image.key[0], "0 0")
+    for sigma in (251, 252, 256):
+        t.given(f"entry 0 {sigma} 9")
+        for N in (1, 251, 252, 253, 256, 257):
+            t.given(f"count 0 {N}")
+            if sigma >= N:
+                t.close("9")
+        t.given("position 993")
+        t.close("21")
+        t.given(f"entry 0 {sigma} -")
+    t.say("A volume of 253 blocks: claims in the last entry of each map block, a close, and the next opening.")
+    for n in (0, 1):
+        t.given_bytes(g.map_block(0, n), block(n))
+    t.given_bytes(g.header(0), headers[253])
+    t.given("tape two-maps.img 60000 4096")
+    t.given("position 0")
+    t.open(image.key[0], "0 0")
+    t.holds(253)
+    written = {address: text(f"counts, two maps, block {address}", 1024) for address in (251, 252)}
+    t.write(0, 253, written[252], "12 0")
+    t.write(0, 251, written[251], "0 claimed 0 1")
+    t.write(0, 252, written[252], "0 claimed 1 1")
+    t.write(0, 256, written[252], "12 0")
+    t.close("0")
+    t.holds(253)
+    t.open(image.key[0], "0 0")
+    t.holds(253)
+    t.reads((0, 251, written[251]), (0, 252, written[252]), (0, 250, None))
+    t.read(0, 253, "12")
+    t.find(0, 252, f"1024 {1024 * (46 + 2 + 1)}")
+    t.say("The same device with a count of 252: the entry is now past it.")
+    t.given_bytes(g.header(0), headers[252])
+    t.open(image.key[0], "9")
+
+
+def format_counts():
+    """Formatting with counts, and sessions on what it makes."""
+    g = COUNTED
+    key = format_keys(*range(17))
+    offset = 100000
+    long_tape = f"two-maps.img {offset} 70000"
+    some = {n: text(f"format-counts, text {n}", g.B) for n in range(3)}
+    t = Transcript(
+        "format-counts.txt",
+        "Formatting with a count of logical slices for each key. The device has 7 slices of 3 blocks.",
+    )
+
+    def blank(position=0):
+        t.given(f"zeros {g.length}")
+        t.given(f"position {position}")
+
+    def lengths_are(volumes):
+        """The last block of each volume is zeros, and the one behind it 12."""
+        for volume, N in volumes:
+            t.reads((volume, 3 * N - 1, None))
+            t.read(volume, 3 * N, "12")
+
+    t.given(f"geometry {words(g)}")
+    t.given("maps 105 7")
+    t.given("owners 7 0 255 1 9 9 9")
+    t.given(f"permutation {words(COUNTED_PERMUTATION)}")
+    t.given(f"tape {long_tape}")
+    t.given(f"session {OTHER_SESSION}")
+    t.say("One key, with each count from 1 to P.")
+    for N in range(1, 8):
+        blank()
+        t.format(key[:1], "0", counts=[N])
+        assert t.lent.position == 60416 + 104
+        t.open(key[0], "0 0")
+        t.holds(N)
+        lengths_are([(0, N)])
+        t.read(0, 20, "0" if N == 7 else "12")
+    t.say("Two keys.")
+    for pair in ((1, 7), (7, 1), (5, 2), (7, 7), (1, 1), (3, 4)):
+        blank(5)
+        t.format(key[:2], "0", counts=pair)
+        assert t.lent.position == 5 + 60416 + 2 * 104
+        t.open(key[0], "0 0")
+        t.holds(pair[0])
+        t.open(key[1], "0 1")
+        t.holds(*pair)
+        lengths_are(enumerate(pair))
+    t.say("All 15, over the device that was made before, each count twice and 1 three times.")
+    fifteen = [1, 2, 3, 4, 5, 6, 7, 1, 7, 6, 5, 4, 3, 2, 1]
+    t.given("position 9")
+    t.format(key[:15], "0", counts=fifteen)
+    assert t.lent.position == 9 + 60416 + 15 * 104
+    drawn = FILES["two-maps.img"][offset : offset + 70000]
+    for i, N in enumerate(fifteen):
+        vmk = drawn[60425 + 64 * i : 60425 + 64 * i + 32]
+        header = t.lent.device[1024 * (1 + 2 * i) : 1024 * (1 + 2 * i) + 100]
+        assert unseal(vmk, header, bytes([16 + i]))[64:] == bytes([0, 0, 0, N, 0, 0, 0, 3])
+    for i in range(VOLUMES):
+        t.open(key[i], f"0 {i}")
+        t.holds(*fifteen[: i + 1])
+        lengths_are([(i, fifteen[i]), (i // 2, fifteen[i // 2])])
+        t.read(i + 1, 0, "11")
+    t.say("A session of all 15: claims of the last logical slice of volumes with counts 7, 1 and 4; none behind it.")
+    t.write(14, 3, some[0], "12 0")
+    t.write(8, 20, some[0], "0 claimed 3 1")
+    t.write(14, 2, some[1], "0 claimed 6 1")
+    t.write(3, 11, some[2], "0 claimed 2 1")
+    t.write(3, 12, some[2], "12 0")
+    t.reads((8, 20, some[0]), (8, 19, None), (14, 2, some[1]), (14, 0, None), (3, 11, some[2]), (6, 20, None))
+    t.say("A count that is not allowed in each row, in turn.")
+    for row in range(VOLUMES):
+        t.given(f"count {row} 0")
+        t.read(8, 20, "20")
+        t.close("20")
+        t.given(f"count {row} 8")
+        t.find(14, 2, "0")
+        t.write(3, 11, some[0], "20 0")
+        t.given(f"count {row} {fifteen[row]}")
+    t.close("0")
+    t.holds(*fifteen)
+    for i in (14, 8, 3):
+        t.open(key[i], f"0 {i}")
+        t.holds(*fifteen[: i + 1])
+        t.reads((3, 11, some[2]), (3, 10, None))
+        if i >= 8:
+            t.reads((8, 20, some[0]))
+    t.open(key[14], "0 14")
+    t.reads((14, 2, some[1]))
+    t.say("The counts of the old device are gone with it.")
+    t.given("position 9")
+    t.format(key[:15], "0", counts=fifteen[1:] + [7])
+    t.open(key[14], "0 14")
+    t.holds(*fifteen[1:], 7)
+    t.reads((14, 20, None), (0, 5, None))
+    t.read(0, 6, "12")
+
+    t.say("1: another number of counts than keys.")
+    t.given(f"geometry {words(g)}")
+    t.given("device counts.img 60416")
+    t.given("position 0")
+    for volumes, numbers in ((1, (0, 2, 15)), (2, (0, 1, 3)), (3, (0, 2, 4)), (14, (13, 15)), (15, (0, 1, 14, 16)),
+                             (0, (1, 2, 15, 16)), (16, (0, 1, 15, 17)), (17, (16, 1)), (257, (1,)), (2**32 + 1, (1,)),
+                             (2**64 - 1, (0, 15))):
+        keys = b"".join(key[: min(volumes, 17)])
+        for number_of_counts in numbers:
+            t.format(keys, "1", volumes, [7] * number_of_counts)
+    t.say("As many counts as keys: 23 with none and with 16.")
+    t.format(b"", "23", 0, [])
+    t.format(key[:16], "23", counts=[7] * 16)
+    t.format(key[:17], "23", counts=[1] * 17)
+
+    t.say("1: a count of 0 or above P, in each place.")
+    for volumes in (1, 2, 15):
+        for place in range(volumes):
+            for count in (0, 8):
+                handed = [7, 1, 4][:volumes] if volumes < 3 else list(fifteen)
+                handed[place] = count
+                t.format(key[:volumes], "1", counts=handed)
+    t.say("Large ones, among them such that are right modulo 2^8, 2^16 or 2^32.")
+    for count in (9, 255, 256, 257, 2**16 + 3, 2**31, 2**32 - 1, 2**32, 2**32 + 7, 2**63, 2**63 + 1, 2**64 - 1):
+        t.format(key[:1], "1", counts=[count])
+        t.format(key[:3], "1", counts=[7, count, 1])
+        t.format(key[:15], "1", counts=fifteen[:14] + [count])
+    t.say("All of them; and where their sum is right.")
+    t.format(key[:15], "1", counts=[0] * 15)
+    t.format(key[:15], "1", counts=[8] * 15)
+    t.format(key[:2], "1", counts=[0, 7])
+    t.format(key[:2], "1", counts=[2**64 - 1, 7])
+    t.say("With 16 keys a bad count is 1, before 23.")
+    t.format(key[:16], "1", counts=[7] * 15 + [0])
+    t.format(key[:16], "1", counts=[8] + [7] * 15)
+    t.format(key[:16], "1", counts=[7] * 15)
+
+    t.say("1 before 2, 23, 3, 21 and 24, each alone: with bad counts, with a count too few, with one too many; then without.")
+    for device, position, keys, volumes, answer in (
+        ("device counts.img 60415", 0, key[:2], 2, "2"), ("device two-maps.img 60417", 0, key[:2], 2, "2"),
+        ("device counts.img 0", 0, key[:2], 2, "2"), ("device counts.img 60416", 0, [], 0, "23"),
+        ("device counts.img 60416", 0, key[:16], 16, "23"), ("device counts.img 60416", 0, [key[0], key[1][:31]], 2, "3"),
+        ("device counts.img 60416", 0, key[:3], 2, "3"), ("device counts.img 60416", 0, [], 2, "3"),
+        ("device counts.img 60416", 9377, key[:2], 2, "21"), ("device counts.img 60416", 70001, key[:2], 2, "21"),
+        ("device counts.img 60416", 2**64 - 1, key[:2], 2, "21"), ("device counts.img 60416", 0, [key[0], key[0]], 2, "24"),
+        ("device counts.img 60415", 70001, [], 0, "2"), ("device counts.img 60415", 70001, key[:1], 16, "2"),
+        ("device counts.img 60416", 70001, [key[0]], 2, "3"), ("device counts.img 60416", 70001, [key[0], key[0]], 2, "21"),
+    ):
+        t.given(device)
+        t.given(f"position {position}")
+        keys = b"".join(keys)
+        for handed in ([7] * (volumes - 1) + [0] if volumes else None, [8] + [7] * (volumes - 1) if volumes else None,
+                       [7] * (volumes - 1) if volumes else None, [7] * (volumes + 1), [0] * (volumes + 1)):
+            if handed is not None:
+                t.format(keys, "1", volumes, handed)
+        t.format(keys, answer, volumes, [7] * volumes)
+        t.format(keys, answer, volumes, [1] * volumes)
+    t.say("A geometry that is not allowed, with counts that are, and with others.")
+    t.given("device counts.img 60416")
+    t.given("position 0")
+    for geometry in ("1024 65 7", "1024 0 7", "2048 3 7", "1024 3 0", "1024 3 4097", "0 0 0"):
+        t.given(f"geometry {geometry}")
+        for handed in ([1, 1], [7, 7], [0, 1], [4097, 4097], [7]):
+            t.format(key[:2], "1", counts=handed)
+    t.say("Counts are judged by the geometry that is handed in: 7 is allowed where P is 8, 8 is too, and the device is then 2.")
+    for geometry, P in (("1024 3 8", 8), ("1024 3 6", 6), ("4096 256 4096", 4096)):
+        t.given(f"geometry {geometry}")
+        t.format(key[:2], "2", counts=[P, 1])
+        t.format(key[:2], "1", counts=[P + 1, 1])
+        t.format(key[:2], "1", counts=[1, P + 1])
+
+    t.say("P 1: the count can be 1 alone, and the volume has one block.")
+    tiny = Geometry(1024, 1, 1)
+    assert tiny.length == 33792
+    t.given(f"geometry {words(tiny)}")
+    for line in ("zeros 33792", "maps 15 -", "owners 0", "permutation 0", "position 0"):
+        t.given(line)
+    for count in (0, 2, 7, 2**64 - 1):
+        t.format(key[:1], "1", counts=[count])
+        t.format(key[:2], "1", counts=[1, count])
+    t.format(key[:2], "0", counts=[1, 1])
+    t.open(key[1], "0 1")
+    t.holds(1, 1)
+    t.reads((0, 0, None), (1, 0, None))
+    t.read(0, 1, "12")
+    t.read(1, 1, "12")
+    t.write(1, 0, some[0], "0 claimed 0 1")
+    t.write(1, 1, some[0], "12 0")
+    t.close("0")
+    t.holds(1, 1)
+    t.open(key[1], "0 1")
+    t.reads((1, 0, some[0]))
+
+    t.say("Two map blocks, P 253: volumes of 252, 253 and 1 logical slices, with one tape byte too few and exactly enough.")
+    g = Geometry(1024, 1, 253)
+    need = 565248 + 3 * (88 + 32)
+    t.given(f"geometry {words(g)}")
+    t.given(f"zeros {g.length}")
+    t.given(f"maps {15 * 253} -")
+    t.given(f"owners {words([0] * 253)}")
+    t.given(f"permutation {words(range(253))}")
+    t.given(f"tape two-maps.img 2000 {need - 1}")
+    t.given("position 0")
+    t.format(key[:3], "1", counts=[252, 254, 1])
+    t.format(key[:3], "21", counts=[252, 253, 1])
+    t.given(f"tape two-maps.img 2000 {need}")
+    t.format(key[:3], "0", counts=[252, 253, 1])
+    t.open(key[2], "0 2")
+    t.holds(252, 253, 1)
+    t.reads((0, 251, None), (1, 252, None), (2, 0, None))
+    for volume, address in ((0, 252), (1, 253), (2, 1)):
+        t.read(volume, address, "12")
+    t.given("position 0")
+    t.write(0, 252, some[0], "12 0")
+    t.write(0, 251, some[0], "0 claimed 0 1")
+    t.write(1, 252, some[1], "0 claimed 1 1")
+    t.write(2, 0, some[2], "0 claimed 2 1")
+    t.close("0")
+    t.holds(252, 253, 1)
+    t.open(key[2], "0 2")
+    t.holds(252, 253, 1)
+    t.reads((0, 251, some[0]), (1, 252, some[1]), (2, 0, some[2]), (1, 251, None))
     t.finish()
 
 
@@ -2491,6 +3347,8 @@ def make():
     format_refusals()
     lower_cells()
     start_places()
+    counts()
+    format_counts()
 
 
 def main():
