@@ -15,7 +15,7 @@ use Rattle.model.specs.declared.Geometry.{Geometry}
 use Rattle.model.specs.Parts.{part}
 use Rattle.model.specs.Geometry.{badGeometry}
 use Rattle.model.specs.Session.{geometry, unmapped}
-use Rattle.model.specs.Opening.{missing}
+use Rattle.model.specs.Permutation.{missing}
 use Rattle.model.proofs.Parts.{take-replicate}
 use Rattle.model.proofs.Order.{unless-refused}
 use Rattle.lines.specs.Hexadecimal.{Bytes}

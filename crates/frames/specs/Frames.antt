@@ -10,7 +10,7 @@ use Rattle.model.specs.declared.Geometry.{Geometry}
 use Rattle.model.specs.Parts.{choose, part}
 use Rattle.model.specs.Geometry.{badGeometry}
 use Rattle.model.specs.Session.{geometry, unless}
-use Rattle.model.specs.Opening.{missing}
+use Rattle.model.specs.Permutation.{missing}
 use Rattle.lines.specs.Hexadecimal.{Spelt, Bytes, Neither}
 use Rattle.claims.specs.State.{State, empty}
 use Rattle.claims.specs.Claims.{Stepped, refusedBy, written}

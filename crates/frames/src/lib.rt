@@ -9,7 +9,7 @@ ghost use Prim.Native.Nat.{ℕ, _+_, _*_, _≤_, _<_};
 ghost use lib.ListN.{length, take};
 ghost use Rattle.block.specs.Bytes.{number};
 ghost use Rattle.model.specs.Parts.{part};
-ghost use Rattle.model.specs.Opening.{missing};
+ghost use Rattle.model.specs.Permutation.{missing};
 ghost use Rattle.lines.specs.Hexadecimal.{Bytes};
 ghost use Rattle.lines.specs.Answers.{answerBytes};
 ghost use Rattle.claims.specs.Claims.{written};

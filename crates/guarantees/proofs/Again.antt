@@ -19,13 +19,14 @@ use Rattle.guarantees.specs.Runs.{State, Closing, Closes, outcome, next}
 use Rattle.model.specs.Geometry.{Allowed}
 use Rattle.model.specs.Conditions.{TablesFit, EntryFitsAt, Enough, Names}
 use Rattle.guarantees.specs.Arrays.{Arrays}
+use Rattle.guarantees.specs.Rules.{tableEntry}
 use Rattle.guarantees.specs.Points.{Handed, Lent, opens, holds, begin, Reopens}
 use Rattle.model.proofs.Parts.{part-part, patched-length}
 use Rattle.model.proofs.Bounds.{b-bounds}
 use Rattle.model.proofs.Requests.{asked-slice}
 use Rattle.model.proofs.Tests.{below}
 use Rattle.guarantees.proofs.Places.{Apart, slice-first}
-use Rattle.guarantees.proofs.SoundTables.{tableEntry, sound-fits}
+use Rattle.guarantees.proofs.SoundTables.{sound-fits}
 use Rattle.guarantees.proofs.Blocks.{deciphered-same}
 use Rattle.guarantees.proofs.Cases.{Stands, close-cases}
 use Rattle.guarantees.proofs.MapBlocks.{mapPatches-elsewhere, storedEntry-back}

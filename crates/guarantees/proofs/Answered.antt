@@ -14,23 +14,24 @@ use Rattle.model.specs.Opening.{Cell, Chain, mapEntries, Loaded, openRefusal, O
 use Rattle.model.specs.Opening.{withTables, withKeys, withCell, openModel}
 use Rattle.model.specs.Read.{ReadResult, deciphered, readRefusal, readModel, findModel}
 use Rattle.model.specs.Write.{WriteResult, writeModel}
+use Rattle.model.specs.Release.{ReleaseResult, releaseRefusal, releaseModel}
 use Rattle.model.specs.Close.{CloseResult, closeRefusal, closeModel}
 use Rattle.guarantees.specs.Rules.{Rule, First, SearchEnds, heldEntry, openRules}
 use Rattle.guarantees.specs.Openings.{Lowest, AllUnlocked, OpenAnswered, handed-wrong, no-cell, header-tag}
 use Rattle.guarantees.specs.Openings.{header-geometry, bad-entry, slice-twice}
-use Rattle.guarantees.specs.Points.{ReadAnswered, FindAnswered, WriteAnswered, CloseAnswered}
+use Rattle.guarantees.specs.Points.{ReadAnswered, FindAnswered, WriteAnswered, ReleaseAnswered, CloseAnswered}
 use Rattle.model.proofs.Requests.{readRefusal-none}
 use Rattle.model.proofs.Cells.{CellsEnd, lowest, nowhere, firstCell-ends}
 use Rattle.guarantees.proofs.Reflects.{ltb-reflects, choose-reflects}
 use Rattle.guarantees.proofs.Chains.{Leads, here, later, none, leads-first, leads-append, none-leads}
-use Rattle.guarantees.proofs.Orders.{earlyRules, open-leads, read-leads, write-leads, close-leads}
+use Rattle.guarantees.proofs.Orders.{earlyRules, open-leads, read-leads, write-leads, release-leads, close-leads}
 use Rattle.guarantees.proofs.Search.{search-ends, free-not-bad, free-not-full, full-not-bad}
 use Rattle.guarantees.proofs.Cases.{unless-cases, Writable, writable-passes, write-cases}
 use Rattle.guarantees.proofs.Unlocks.{ChainEnds, whole, wrong-tag, misfit, chain-ends, allKeys-unlocked}
 use Rattle.guarantees.proofs.Tables.{LoadEnds, loaded, bad, twice, holds-sound, load-ends}
 use Rattle.guarantees.proofs.Opened.{openRefusal-none}
 
--- ---- read, find and close
+-- ---- read, find, release and close
 
 -- Where no refusal applies the asked entry is a slice or the mark.
 module _ (device maps owners : List ℕ) (s : Session) (i a room : ℕ) (e : readRefusal (length device) maps owners s i a room ≡ 0) where
@@ -60,6 +61,16 @@ find-answered device maps owners s i a =
     (λ e. choose-reflects (FindAnswered device maps owners s i a) _ _ (ltb-reflects (entryOf maps (s .geometry) i a) (s .geometry .p))
     (FindAnswered.mapped (leads-first (rw e at q)))
     (λ out. FindAnswered.nowhere (leads-first (rw e at q)) (entry-unmapped device maps owners s i a (s .geometry .b) e out)))
+
+pub release-answered : (device : ℕ) (h : Held) (i σ : ℕ) (perm : List ℕ)
+    → ReleaseAnswered device h i σ perm (releaseModel device h i σ perm .answer)
+unfolding releaseModel
+release-answered device h i σ perm =
+    let q = release-leads device h i σ perm in
+    unless-cases (λ (o : Outcome ReleaseResult). ReleaseAnswered device h i σ perm (o .answer))
+    (releaseRefusal device (h .maps) (h .owners) (h .session) i σ perm) _ _
+    (λ r e. ReleaseAnswered.refused (suc r) (omega arith) (leads-first (rw e at q)))
+    (λ e. ReleaseAnswered.served (leads-first (rw e at q)))
 
 pub close-answered : (device : ℕ) (h : Held) (tape : List ℕ) → CloseAnswered device h tape (closeModel device h tape .answer)
 unfolding closeModel

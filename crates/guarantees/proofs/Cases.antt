@@ -1,23 +1,29 @@
 -- What a call may come to: one case analysis for each call, cited by every theorem on runs. Assumes nothing.
-use Prim.Native.Nat.{ℕ, zero, suc, _<_}
-use mathlib.Core.Path.{_≡_, refl, _∙_}
+use Prim.Native.Nat.{ℕ, zero, suc, _≤_, _<_}
+use mathlib.Core.Path.{_≡_, refl, sym, ap, subst, _∙_}
 use mathlib.Core.List.{List}
 use mathlib.Core.Logic.{⊎-elim}
 use native.Mathlib.Omega.{arith}
 use lib.ListN.{length, getD}
+use Rattle.model.specs.declared.Geometry.{Geometry}
+use Rattle.model.specs.declared.Session.{Session}
 use Rattle.model.specs.declared.Search.{Search}
 use Rattle.model.specs.declared.Search.the-variants.{Free, Bad, Full}
-use Rattle.model.specs.Session.{Held, Outcome, geometry, sliceOf, offsetOf, unmapped, unless, idle}
+use Rattle.model.specs.Permutation.{placeOf}
+use Rattle.model.specs.Session.{Held, Outcome, geometry, countOf, startingAt, sliceOf, offsetOf, unmapped, unless, idle}
 use Rattle.model.specs.Read.{readRefusal}
 use Rattle.model.specs.Search.{firstFree}
 use Rattle.model.specs.Write.{probesTo, WriteResult, rewritten, claimed, full, claimOutcome, writeRefusal, writeModel}
+use Rattle.model.specs.Release.{releaseRefusal, ReleaseResult, released, releaseModel}
 use Rattle.model.specs.Close.{closeNeed, closeRefusal, CloseResult, closed, closeModel}
-use Rattle.model.specs.Conditions.{Enough, sliceAt}
+use Rattle.model.specs.Geometry.{deviceLength}
+use Rattle.model.specs.Conditions.{Usable, TablesFit, Enough, Names, sliceAt}
 use Rattle.model.proofs.Requests as requests
-use Rattle.guarantees.specs.Rules.{heldEntry, askedRules, FreeAt, BadAt, NoneFree}
+use Rattle.guarantees.specs.Rules.{heldEntry, tableEntry, askedRules, FreeAt, BadAt, NoneFree}
 use Rattle.guarantees.proofs.Reflects.{ltb-reflects, choose-reflects, choose-refutes}
 use Rattle.guarantees.proofs.Chains.{None, leads-unlisted}
-use Rattle.guarantees.proofs.Orders.{short-refutes, earlyRules, write-leads}
+use Rattle.guarantees.proofs.Orders.{short-refutes, missing-names, earlyRules, write-leads}
+use Rattle.model.proofs.Permutations.{Placed, names-place}
 use Rattle.model.proofs.Searches.{Finds, firstFree-finds}
 
 -- The two ends of a chain of refusals.
@@ -30,6 +36,21 @@ unless-cases P (suc n) refusal served refused-case served-case = refused-case n 
 
 abbrev pub Stands : (n : ℕ) → Held → Type 0
 Stands n h = requests.Stands n (length (h .maps)) (length (h .owners)) (h .session)
+
+-- It stands with another start place, at most P, and tables of the same lengths.
+pub stands-at : (h h′ : Held) {n m : ℕ} → Stands n h → h′ .session .start ≤ geometry h .p
+    → h′ .session ≡ startingAt (h′ .session .start) (h .session) → m ≡ n
+    → length (h′ .maps) ≡ length (h .maps) → length (h′ .owners) ≡ length (h .owners) → Stands m h′
+stands-at h h′ s l e long maps owners =
+    let u = s .usable in
+    let same : geometry h ≡ geometry h′ = sym (ap (λ (z : Session). z .geometry) e) in
+    record {
+      usable =
+          subst Usable (sym e)
+          (record { opened = u .opened; allowed = u .allowed; top = u .top; place = l; counted = u .counted });
+      long = long ∙ s .long ∙ ap deviceLength same;
+      tables = subst (λ (g : Geometry). TablesFit g (length (h′ .maps)) (length (h′ .owners))) same (maps ∙ s .tables .0, owners ∙ s .tables .1);
+    }
 
 -- ---- an address that is served
 
@@ -127,6 +148,35 @@ module _ (n : ℕ) (h : Held) (i a : ℕ) (text perm tape : List ℕ) where
       write-cases P (λ r e. none (suc r) 0 (λ q. early-not-22 (e ∙ q))) (λ w l s. none 21 0 (omega arith)) re
       (λ w u place f. none 5 (probes place) (omega arith)) (λ w u f. filled w) (λ w u place f s. none 21 (probes place) (omega arith))
       (λ w u ψ place f q enough. cl w u ψ place f (rw q at (f .slice)) (rw q at (f .free)) enough)
+
+-- ---- a release
+
+-- One that is not refused.
+pub record Releasable (n : ℕ) (h : Held) (i σ : ℕ) (perm : List ℕ) : Type 0 where
+  pub stands : Stands n h
+  pub names : Names (geometry h .p) perm
+  pub volume : i ≤ h .session .k
+  pub slice : σ < countOf (h .session) i
+  pub mapped : tableEntry h i σ < geometry h .p
+  pub place : Placed (tableEntry h i σ) perm (placeOf (tableEntry h i σ) perm)
+
+pub release-cases : (n : ℕ) (h : Held) (i σ : ℕ) (perm : List ℕ) (P : Outcome ReleaseResult → Type 0)
+    → ((r : ℕ) → releaseRefusal n (h .maps) (h .owners) (h .session) i σ perm ≡ suc r → P (idle h (ReleaseResult.Refused (suc r))))
+    → (Releasable n h i σ perm → P (released h i σ (tableEntry h i σ) (placeOf (tableEntry h i σ) perm)))
+    → P (releaseModel n h i σ perm)
+unfolding releaseModel
+release-cases n h i σ perm P refused done =
+    unless-cases P _ _ _ refused
+    (λ e. let q = requests.releaseRefusal-none n (h .maps) (h .owners) (h .session) i σ perm e in
+    let names = missing-names (geometry h .p) perm (q .places) (q .named) in
+    done (record {
+      stands = q .stands;
+      names = names;
+      volume = q .volume;
+      slice = q .slice;
+      mapped = q .mapped;
+      place = names-place (geometry h .p) perm (tableEntry h i σ) names (q .mapped);
+    }))
 
 -- ---- a close
 

@@ -7,13 +7,14 @@ pub mod Places
 pub mod Blocks
 pub mod SoundTables
 pub mod Cases
+pub mod Entries
 pub mod Claims
+pub mod Releases
 pub mod MapBlocks
 pub mod Making
 pub mod Stored
 pub mod Unlocks
 pub mod Tables
-pub mod Permutations
 pub mod Opened
 pub mod Answered
 pub mod Point2
@@ -21,4 +22,5 @@ pub mod Again
 pub mod Point3
 pub mod Points
 pub mod StartPlaces
+pub mod GivenBack
 pub mod Blank

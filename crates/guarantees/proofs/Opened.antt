@@ -18,22 +18,23 @@ use Rattle.model.specs.Opening.{link, chain, storedEntry, mapEntries, Loaded, T
 use Rattle.model.specs.Opening.{untouched, allKeys, allCounts, openSession, withTables, withKeys, withCell, openModel}
 use Rattle.model.specs.Search.{firstFree, startPlace}
 use Rattle.model.specs.Conditions.{TablesFit, Names}
+use Rattle.model.proofs.Permutations.{names-below}
 use Rattle.model.proofs.Tests.{equal}
 use Rattle.model.proofs.Cells.{firstCell-lowest}
 use Rattle.model.proofs.Keys.{allKeys-length, allKeys-above, allCounts-length, allCounts-above}
 use Rattle.model.proofs.Searches.{Finds, firstFree-finds}
 use Rattle.model.proofs.Requests as requests
 use Rattle.guarantees.specs.Openings.{Lowest, AllUnlocked}
+use Rattle.guarantees.specs.Rules.{tableEntry}
 use Rattle.guarantees.specs.Points.{Handed, Lent, opens, Maps, StartsAt, Opens}
 use Rattle.guarantees.proofs.Reflects.{refutes-passed}
 use Rattle.guarantees.proofs.Chains.{leads-zero}
-use Rattle.guarantees.proofs.Orders.{missing-refutes, open-leads}
-use Rattle.guarantees.proofs.SoundTables.{SoundTables, tableEntry}
+use Rattle.guarantees.proofs.Orders.{missing-names, open-leads}
+use Rattle.guarantees.proofs.SoundTables.{SoundTables}
 use Rattle.guarantees.proofs.Blocks.{same-slot}
 use Rattle.guarantees.proofs.Cases.{Stands}
 use Rattle.guarantees.proofs.Unlocks.{UnlockedFrom, allKeys-unlocked, chain-unlocked}
 use Rattle.guarantees.proofs.Tables.{Holds, load-holds, load-same}
-use Rattle.guarantees.proofs.Permutations.{names-below}
 
 -- ---- the lowest cell that opens: no cell above it counts
 
@@ -87,8 +88,13 @@ module _ (device : List ℕ) (x : Handed) (l : Lent) where
   pub openRefusal-none : openRefusalOf device x l ≡ 0 → Taken device x l
   openRefusal-none e =
       let q = requests.openRefusal-none _ _ _ _ _ _ e in
-      let each = refutes-passed (missing-refutes (x .geometry .p) (x .perm)) (q .named) in
-      record { good = q .allowed; long = q .long; keyed = q .key-long; tables = q .tables; names = record { places = q .places; each = each } }
+      record {
+        good = q .allowed;
+        long = q .long;
+        keyed = q .key-long;
+        tables = q .tables;
+        names = missing-names (x .geometry .p) (x .perm) (q .places) (q .named);
+      }
 
   pub openRefusal-taken : Taken device x l → openRefusalOf device x l ≡ 0
   openRefusal-taken t =

@@ -3,7 +3,7 @@
 use Prim.Native.Nat.{ℕ, zero, suc, _+_, _*_, _/_, _%_, _≤_, _<_}
 use mathlib.Core.Path.{_≡_, sym}
 use mathlib.Core.Logic.{_⊎_, inl, inr, ⊎-elim}
-use mathlib.Core.Bool.{not}
+use mathlib.Core.Bool.{false, not}
 use mathlib.Core.List.{List, [], _∷_, _++_}
 use native.Mathlib.Omega.{arith}
 use lib.ListN.{length, getD}
@@ -12,20 +12,22 @@ use Rattle.refusals.specs.Numbers.{refuse}
 use Rattle.model.specs.declared.Geometry.{Geometry}
 use Rattle.model.specs.declared.Session.{Session}
 use Rattle.model.specs.Geometry.{badGeometry, countIn, badCount, anyBadCount, deviceLength, Allowed}
-use Rattle.model.specs.Session.{Held, geometry, blockCount, unmapped, entryOf, badEntry, badEntryAt, standing, asked, short}
-use Rattle.model.specs.Opening.{member, missing, openRefusal}
+use Rattle.model.specs.Session.{Held, geometry, countOf, blockCount, unmapped, entryOf, badEntry, badEntryAt, standing, asked, short}
+use Rattle.model.specs.Permutation.{member, missing, badPermutation}
+use Rattle.model.specs.Opening.{openRefusal}
 use Rattle.model.specs.Read.{readRefusal}
 use Rattle.model.specs.Write.{writeRefusal}
+use Rattle.model.specs.Release.{releaseRefusal}
 use Rattle.model.specs.Close.{anyBad, closeRefusal}
 use Rattle.model.specs.Format.{formatNeed, formatRefusal}
 use Rattle.model.specs.Conditions.{CountFits, CountsFit, Counted, Usable, TablesFit, EntryFits, EntryFitsAt, Enough, sliceAt, Names}
 use Rattle.model.proofs.Tests.{below}
 use Rattle.model.proofs.Requests.{short-false, short-true, Formattable}
 use Rattle.guarantees.specs.Rules.{Rule, rule}
-use Rattle.guarantees.specs.Rules.{standingRules, askedRules, openRules, formatTape, formatRules, readRules, closeRules}
+use Rattle.guarantees.specs.Rules.{standingRules, askedRules, openRules, formatTape, formatRules, readRules, releaseRules, closeRules, tableEntry}
 use Rattle.guarantees.proofs.Reflects.{Reflects, fails, ltb-reflects, leb-reflects, eqb-reflects, bool-reflects, reflects-map, or-reflects}
 use Rattle.guarantees.proofs.Reflects.{and-reflects, Refutes, refuted, not-refutes, ltb-refutes, or-refutes}
-use Rattle.guarantees.proofs.Reflects.{Below, below-zero-refutes, below-suc-refutes, anyBelow-refutes}
+use Rattle.guarantees.proofs.Reflects.{refutes-passed, refutes-stable, Below, below-zero-refutes, below-suc-refutes, anyBelow-refutes}
 use Rattle.guarantees.proofs.Chains.{Guards, refuse-guards, guards-map, guards-both, Leads, none, leads-refuse, leads-row}
 use Rattle.guarantees.proofs.Chains.{Comes, comes-map, comes-rest, comes-rule, comes-row}
 
@@ -87,9 +89,13 @@ member-reflects ψ (φ ∷ perm) = reflects-map to from (or-reflects (eqb-reflec
     from : Named (φ ∷ perm) ψ → (ψ ≡ φ) ⊎ Named perm ψ
     from k = at (k .0) (k .1) (k .2)
 
-pub missing-refutes : (n : ℕ) (perm : List ℕ) → Refutes (Below n (Named perm)) (missing n perm)
+missing-refutes : (n : ℕ) (perm : List ℕ) → Refutes (Below n (Named perm)) (missing n perm)
 missing-refutes zero perm = below-zero-refutes (Named perm)
 missing-refutes (suc n) perm = below-suc-refutes (Named perm) n (missing-refutes n perm) (not-refutes (member-reflects n perm))
+
+-- A permutation of P places in which no slice is missing names each.
+pub missing-names : (p : ℕ) (perm : List ℕ) → length perm ≡ p → missing p perm ≡ false → Names p perm
+missing-names p perm places e = record { places = places; each = refutes-passed (missing-refutes p perm) e }
 
 anyBad-refutes : (p : ℕ) (counts maps : List ℕ) (n : ℕ)
     → Refutes (Below n (λ m. EntryFitsAt p counts m (getD maps m 0))) (anyBad p counts maps n)
@@ -116,10 +122,14 @@ tables-guards : (g : Geometry) (maps owners : ℕ)
     → Guards (λ rest. refuse (not (eqb maps (15 * g .p))) 4 (refuse (not (eqb owners (g .p))) 4 rest)) 4 (TablesFit g maps owners)
 tables-guards g maps owners = guards-both (differ-guards 4 maps (15 * g .p)) (differ-guards 4 owners (g .p))
 
-names-guards : (p : ℕ) (perm : List ℕ) → Guards (λ rest. refuse (not (eqb (length perm) p)) 5 (refuse (missing p perm) 5 rest)) 5 (Names p perm)
+names-guards : (p : ℕ) (perm : List ℕ) → Guards (badPermutation p perm) 5 (Names p perm)
 names-guards p perm =
     guards-map (λ k. record { places = k .0; each = k .1 }) (λ k. (k .places, k .each))
     (guards-both (differ-guards 5 (length perm) p) (refuse-guards 5 (missing-refutes p perm)))
+
+-- Whether a permutation names each slice is decided.
+pub names-stable : (p : ℕ) (perm : List ℕ) → ((Names p perm → ⊥) → ⊥) → Names p perm
+names-stable p perm = refutes-stable (names-guards p perm .decides)
 
 standing-leads : (device maps owners : ℕ) (s : Session) {rs : List Rule} {rest : ℕ} → Leads rs rest 0
     → Leads (standingRules device maps owners s ++ rs) (standing device maps owners s rest) 0
@@ -167,6 +177,18 @@ unfolding writeRefusal
 write-leads device h i a len places =
     standing-leads device (length (h .maps)) (length (h .owners)) (h .session)
     (leads-row (differ-guards 5 places (geometry h .p)) (asked-leads (h .maps) (h .session) i a len))
+
+pub release-leads : (device : ℕ) (h : Held) (i σ : ℕ) (perm : List ℕ)
+    → Leads (releaseRules device h i σ perm) (releaseRefusal device (h .maps) (h .owners) (h .session) i σ perm) 0
+unfolding releaseRefusal
+release-leads device h i σ perm =
+    standing-leads device (length (h .maps)) (length (h .owners)) (h .session)
+    (leads-row (names-guards (geometry h .p) perm)
+    (leads-refuse 11 (ltb-reflects (h .session .k) i)
+    (leads-refuse 12 (leb-reflects (countOf (h .session) i) σ)
+    (leads-row (refuse-guards 9 (badEntry-refutes (geometry h) (tableEntry h i σ)))
+    (leads-refuse 25 (eqb-reflects (tableEntry h i σ) unmapped)
+    none)))))
 
 pub close-leads : (device : ℕ) (h : Held) (tape : ℕ) → Leads (closeRules device h tape) (closeRefusal device h tape) 0
 unfolding closeRefusal

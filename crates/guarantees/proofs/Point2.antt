@@ -1,26 +1,29 @@
 -- Point 2: every open volume is an array of blocks, and every answer is the one due, over every list of calls. Assumes nothing.
 use Prim.Native.Nat.{ℕ, suc, _+_, _*_, _/_, _%_, _≤_, _<_}
-use mathlib.Core.Path.{_≡_, refl, sym, ap, _∙_}
+use mathlib.Core.Path.{_≡_, refl, sym, ap, _∙_, subst}
 use mathlib.Core.List.{List, [], _∷_}
 use mathlib.Core.Bool.{true}
 use mathlib.Core.Logic.{_⊎_, inl, inr, ⊎-elim}
 use native.Mathlib.Omega.{arith}
 use native.Mathlib.Nat.{le-refl, div-add-mod', mod-lt, div-lt-iff-lt-mul}
-use lib.ListN.{length, getD, length-set}
+use lib.ListN.{length, getD}
 use borrow.Author.Tests.{eq-eqb, ne-eqb}
 use Rattle.refusals.specs.Numbers.{refuse}
 use Rattle.model.specs.declared.Geometry.{Geometry}
+use Rattle.model.specs.declared.Session.{Session}
 use Rattle.model.specs.Parts.{part, overlay, patched}
 use Rattle.model.specs.Geometry.{sliceStart, ivStart, blockStart, Allowed}
 use Rattle.model.specs.Session.{Held, Outcome, geometry, keyOf, countOf, blockCount, sliceOf, offsetOf, unmapped, asked, idle, startingAt}
 use Rattle.model.specs.Read.{deciphered, blockOf, readRefusal, readModel, findModel}
 use Rattle.model.specs.Write.{WriteResult, rewritten, claimed, full, claimedBytes, writeRefusal, writeModel}
+use Rattle.model.specs.Permutation.{placeOf}
+use Rattle.model.specs.Release.{ReleaseResult, released, releaseModel}
 use Rattle.model.specs.Close.{CloseResult, closeModel}
-use Rattle.guarantees.specs.Runs.{State, Call, Reading, Finding, Writing, Closing, Writes, outcome, next, events, final, left}
-use Rattle.model.specs.Conditions.{Usable, EntryFitsAt, Enough}
-use Rattle.guarantees.specs.Rules.{closeRules, heldEntry, FreeAt}
-use Rattle.guarantees.specs.Arrays.{Arrays, put, arraysAfter, arraysAfterAll, Fits, Unfit, ReadDue, FindDue, found, nowhere}
-use Rattle.guarantees.specs.Arrays.{WriteDue, rewrite-short, claim-short, no-slice, CloseDue, done, close-short, Due, AllDue}
+use Rattle.guarantees.specs.Runs.{State, Call, Reading, Finding, Writing, Releasing, Closing, Writes, Releases, outcome, next, events, final, left}
+use Rattle.model.specs.Conditions.{Usable, EntryFitsAt, Enough, Names}
+use Rattle.guarantees.specs.Rules.{releaseRules, closeRules, heldEntry, tableEntry, FreeAt}
+use Rattle.guarantees.specs.Arrays.{Arrays, put, cleared, arraysAfter, arraysAfterAll, Fits, Unfit, ReadDue, FindDue, found, nowhere}
+use Rattle.guarantees.specs.Arrays.{WriteDue, rewrite-short, claim-short, no-slice, ReleaseDue, freed, CloseDue, done, close-short, Due, AllDue}
 use Rattle.model.proofs.Parts.{part-length, overlay-before, overlay-length, patched-length}
 use Rattle.model.proofs.Tests.{equal}
 use Rattle.model.proofs.Bounds.{offsetOf-lt}
@@ -28,14 +31,16 @@ use Rattle.model.proofs.Requests.{readRefusal-none, readRefusal-served, asked-s
 use Rattle.model.proofs.Blocks.{deciphered-unmapped}
 use Rattle.guarantees.proofs.Reflects.{ltb-reflects, eqb-reflects, bool-reflects, reflects-stable, choose-reflects}
 use Rattle.guarantees.proofs.Chains.{Leads, here, later}
-use Rattle.guarantees.proofs.Orders.{earlyRules, write-leads, close-leads}
+use Rattle.guarantees.proofs.Orders.{names-stable, earlyRules, write-leads, release-leads, close-leads}
 use Rattle.guarantees.proofs.Places.{slice-first}
-use Rattle.guarantees.proofs.SoundTables.{SoundTables, OpenVolume, tableEntry, sound-fits}
+use Rattle.guarantees.proofs.SoundTables.{SoundTables, OpenVolume, sound-fits}
 use Rattle.guarantees.proofs.Blocks.{same-address, restored-here, restored-other, claimedText}
 use Rattle.guarantees.proofs.Blocks.{filled-here, filled-other}
-use Rattle.guarantees.proofs.Cases.{unless-cases, Stands, Asked, Ready, readRefusalOf, writeRefusalOf}
-use Rattle.guarantees.proofs.Cases.{Writable, write-cases, write-stores, close-cases}
-use Rattle.guarantees.proofs.Claims.{claimed-entry, claimed-entry-other, claimed-new, claimed-sound}
+use Rattle.guarantees.proofs.Cases.{unless-cases, Stands, stands-at, Asked, Ready, readRefusalOf, writeRefusalOf}
+use Rattle.guarantees.proofs.Cases.{Writable, write-cases, write-stores, Releasable, release-cases, close-cases}
+use Rattle.guarantees.proofs.Entries.{set-slice, set-entry, set-entry-other}
+use Rattle.guarantees.proofs.Claims.{claimed-stands, free-new, claimed-sound}
+use Rattle.guarantees.proofs.Releases.{released-stands, released-cases, released-sound}
 
 -- ---- one block replaced
 
@@ -78,7 +83,7 @@ module _ (first : State) (device : List ℕ) (h : Held) (i a : ℕ) (text perm t
   key i = keyOf (h .session) i
 
   abbrev Keeps : Outcome WriteResult → Type 0
-  Keeps o = Kept first (arraysAfter arrays (Writes i a text perm tape (o .answer))) (left device o)
+  Keeps o = Kept first (arraysAfter (geometry (first .held)) arrays (Writes i a text perm tape (o .answer))) (left device o)
 
   none : (number count : ℕ) → (number ≡ 22 → ⊥) → Keeps (idle h (WriteResult.Refused number count))
   unfolding arraysAfter patched
@@ -103,10 +108,6 @@ module _ (first : State) (device : List ℕ) (h : Held) (i a : ℕ) (text perm t
     hσ : σ < g .p
     hσ = inside i a (w .asked .volume) (w .asked .address)
 
-    -- A session that was moved on in places.
-    starts : (n : ℕ) → n ≤ g .p → Usable (startingAt n (h .session))
-    starts n l = let u = w .stands .usable in record { opened = u .opened; allowed = u .allowed; top = u .top; place = l; counted = u .counted }
-
     restarted : (n : ℕ) → startingAt n (h .session) ≡ startingAt n (first .held .session)
     restarted n = ap (startingAt n) (op .session)
 
@@ -114,7 +115,7 @@ module _ (first : State) (device : List ℕ) (h : Held) (i a : ℕ) (text perm t
     unfolding arraysAfter patched
     filled live =
         record {
-          stands = record { usable = starts (g .p) (le-refl (g .p)); long = w .stands .long; tables = w .stands .tables };
+          stands = stands-at h (full h .held) (w .stands) (le-refl (g .p)) refl refl refl refl;
           sound =
               let a = op .sound .apart in
               record { whole = op .sound .whole; apart = record { once = a .once; owner = a .owner; free = a .free } };
@@ -189,7 +190,7 @@ module _ (first : State) (device : List ℕ) (h : Held) (i a : ℕ) (text perm t
       old = filled-other g (key i) ivs text j₀ ivsl (w .asked .size) ok device (w .stands .long) ψ hψ
 
       entry-now : tableEntry (o .held) i σ ≡ ψ
-      entry-now = claimed-entry (length device) h i σ j₀ ψ place text tape (w .stands) (w .asked .volume) below
+      entry-now = set-entry (length device) h i σ ψ (w .stands) (w .asked .volume) below
 
       large : g .p ≤ unmapped
       large = omega (arith, ok .slices-most)
@@ -208,10 +209,9 @@ module _ (first : State) (device : List ℕ) (h : Held) (i a : ℕ) (text perm t
           others ne =
               put-other arrays i a text j b (λ p q. ne p (ap (sliceOf g) q))
               ∙ op .holds j b oj hb
-              ∙ rw (claimed-entry-other (length device) h i σ j₀ ψ place text tape (w .stands) (w .asked .volume) below j (sliceOf g b) hb′ ne)
+              ∙ rw (set-entry-other (length device) h i σ ψ (w .stands) (w .asked .volume) below j (sliceOf g b) hb′ ne)
               (sym (old (key j) (heldEntry h j b) (offsetOf g b) (offsetOf-lt g ok b)
-              (claimed-new (length device) h i σ j₀ ψ place text tape (w .stands) (w .asked .volume) below (op .sound) hψ free j (sliceOf g b)
-              oj hb′)))
+              (free-new (op .sound) ψ hψ free j (sliceOf g b) oj hb′)))
 
           -- The claimed one.
           mine : j ≡ i → sliceOf g b ≡ σ
@@ -231,12 +231,7 @@ module _ (first : State) (device : List ℕ) (h : Held) (i a : ℕ) (text perm t
       unfolding arraysAfter patched
       claims live =
           record {
-            stands =
-                record {
-                  usable = starts (place + 1) (omega (arith, f .inside, w .places));
-                  long = overlay-length device _ _ ∙ w .stands .long;
-                  tables = (length-set (h .maps) _ ψ ∙ w .stands .tables .0, length-set (h .owners) ψ (i + 1) ∙ w .stands .tables .1);
-                };
+            stands = claimed-stands h (w .stands) i σ j₀ ψ place text tape (omega (arith, f .inside, w .places)) (overlay-length device _ _);
             sound = claimed-sound (length device) h i σ j₀ ψ place text tape (w .stands) (w .asked .volume) below (op .sound) hψ free un;
             session = restarted (place + 1);
             header = λ x n fits. overlay-before device (sliceStart g ψ) _ x n (omega (arith, slice-first g ψ)) ∙ op .header x n fits;
@@ -253,6 +248,56 @@ unfolding patched
 close-keeps first device h tape arrays kept =
     close-cases (length device) h tape (λ (o : Outcome CloseResult). Kept first arrays (left device o)) (λ r e. kept)
     (λ st enough live. let z : _≡_ {A = ℕ} 0 1 = cc in absurd (omega arith))
+
+-- A release clears the blocks of its logical slice, and every other block stays.
+module _ (first : State) (device : List ℕ) (h : Held) (i σ : ℕ) (perm : List ℕ) (arrays : Arrays)
+    (kept : Kept first arrays (record { device = device; held = h })) where
+  abbrev Releases-keep : Outcome ReleaseResult → Type 0
+  Releases-keep o = Kept first (arraysAfter (geometry (first .held)) arrays (Releases i σ perm (o .answer))) (left device o)
+
+  module _ (w : Releasable (length device) h i σ perm) where
+    abbrev ψ : ℕ
+    ψ = tableEntry h i σ
+
+    abbrev after : Outcome ReleaseResult
+    after = released h i σ ψ (placeOf ψ perm)
+
+    at-first : Open first arrays (record { device = device; held = h })
+    at-first = kept (w .stands .usable .opened)
+
+    same-geometry : geometry h ≡ geometry (first .held)
+    same-geometry = ap (λ (s : Session). s .geometry) (at-first .session)
+
+    clears : (j b : ℕ) → OpenVolume h j → b < blockCount (h .session) j
+        → cleared (geometry h) arrays i σ j b ≡ arraysOf (left device after) j b
+    unfolding patched
+    clears j b oj hb =
+        ⊎-elim
+        (λ c. rw (eq-eqb j i (c .0), eq-eqb (sliceOf (geometry h) b) σ (c .1))
+        (sym (deciphered-unmapped (geometry h) (keyOf (h .session) j) _ (offsetOf (geometry h) b) device
+        (rw (c .2) (omega (arith, w .stands .usable .allowed .slices-most))))))
+        (λ c. other (c .0) ∙ at-first .holds j b oj hb
+        ∙ ap (λ (x : ℕ). deciphered (geometry h) (keyOf (h .session) j) x (offsetOf (geometry h) b) device) (sym (c .1)))
+        (released-cases (length device) h i σ perm w j (sliceOf (geometry h) b) (omega (arith, asked-slice (w .stands) oj hb)))
+      where
+        other : (j ≡ i → sliceOf (geometry h) b ≡ σ → ⊥) → cleared (geometry h) arrays i σ j b ≡ arrays j b
+        other ne =
+            ⊎-elim (λ e. rw (eq-eqb j i e, ne-eqb (sliceOf (geometry h) b) σ (ne e)) refl) (λ d. rw (ne-eqb j i d) refl) (equal j i)
+
+    releases : Releases-keep after
+    unfolding arraysAfter patched
+    releases live =
+        record {
+          stands = released-stands (length device) h i σ perm w;
+          sound = released-sound (length device) h i σ perm w (at-first .sound);
+          session = ap (startingAt _) (at-first .session);
+          header = at-first .header;
+          holds = λ j b oj hb. subst (λ (g′ : Geometry). cleared g′ arrays i σ j b ≡ arraysOf (left device after) j b) same-geometry (clears j b oj hb);
+        }
+
+  release-keeps : Releases-keep (releaseModel (length device) h i σ perm)
+  unfolding arraysAfter patched
+  release-keeps = release-cases (length device) h i σ perm Releases-keep (λ r e. kept) releases
 
 -- ---- the answers that are due
 
@@ -349,6 +394,30 @@ module _ (first : State) (st : State) (arrays : Arrays) (kept : Kept first array
       fit : Writable n h₀ i a text perm → Fits h₀ (length perm) i a (length text)
       fit w = asked-fits (length perm) i a (length text) (w .stands) (w .places) (w .asked)
 
+  release-due : (i σ : ℕ) (perm : List ℕ) → ReleaseDue h₀ i σ perm (releaseModel n h₀ i σ perm .answer)
+  release-due i σ perm =
+      release-cases n h₀ i σ perm (λ (o : Outcome ReleaseResult). ReleaseDue h₀ i σ perm (o .answer))
+      (λ r e. go r (rw e at (release-leads n h₀ i σ perm)))
+      (λ w. freed (w .stands .usable .opened) (w .names) (w .volume) (w .slice) (w .mapped))
+    where
+      named : ((Names (g₀ .p) perm → ⊥) → ⊥) → Names (g₀ .p) perm
+      named = names-stable (g₀ .p) perm
+
+      go : (r : ℕ) → Leads (releaseRules n h₀ i σ perm) (suc r) 0 → ReleaseDue h₀ i σ perm (ReleaseResult.Refused (suc r))
+      go r (here f q c) = rw q (ReleaseDue.shut (λ o. f (kept o .stands .usable)))
+      go r (later u (here f q c)) = absurd (f (kept (live u) .stands .long))
+      go r (later u (later l (here f q c))) = absurd (f (kept (live u) .stands .tables))
+      go r (later u (later l (later t (here f q c)))) = rw q (ReleaseDue.places (live u) f)
+      go r (later u (later l (later t (later p (here v q c))))) = rw q (ReleaseDue.volume (live u) (named p) v)
+      go r (later u (later l (later t (later p (later v (here w q c)))))) = rw q (ReleaseDue.slice (live u) (named p) (omega arith) w)
+      go r (later u (later l (later t (later p (later v (later w (here f q c))))))) =
+          let op = kept (live u) in
+          let volume : OpenVolume h₀ i = omega arith in
+          let slice : σ < countOf (h₀ .session) i = omega arith in
+          absurd (f (sound-fits (op .sound) i σ volume (set-slice n h₀ i σ 0 (op .stands) volume slice)))
+      go r (later u (later l (later t (later p (later v (later w (later b (here e q c)))))))) =
+          rw q (ReleaseDue.none (live u) (named p) (omega arith) (omega arith) e)
+
   close-due : (tape : List ℕ) → CloseDue h₀ tape (closeModel n h₀ tape .answer)
   close-due tape =
       close-cases n h₀ tape (λ (o : Outcome CloseResult). CloseDue h₀ tape (o .answer))
@@ -372,19 +441,21 @@ module _ (first : State) (st : State) (arrays : Arrays) (kept : Kept first array
 -- ---- the list
 
 call-due : (first : State) (st : State) (arrays : Arrays) → Kept first arrays st → (c : Call)
-    → Due arrays st (outcome st c .answer) × Kept first (arraysAfter arrays (outcome st c .answer)) (next st c)
+    → Due arrays st (outcome st c .answer) × Kept first (arraysAfter (geometry (first .held)) arrays (outcome st c .answer)) (next st c)
 unfolding Due outcome arraysAfter patched
 call-due first st arrays kept (Reading i a room) = (read-due first st arrays kept i a room, kept)
 call-due first st arrays kept (Finding i a) = (find-due first st arrays kept i a, kept)
 call-due first st arrays kept (Writing i a text perm tape) =
     (write-due first st arrays kept i a text perm tape, write-keeps first (st .device) (st .held) i a text perm tape arrays kept)
+call-due first st arrays kept (Releasing i σ perm) =
+    (release-due first st arrays kept i σ perm, release-keeps first (st .device) (st .held) i σ perm arrays kept)
 call-due first st arrays kept (Closing tape) = (close-due first st arrays kept tape, close-keeps first (st .device) (st .held) tape arrays kept)
 
 pub run-due : (first : State) (cs : List Call) (st : State) (arrays : Arrays) → Kept first arrays st
-    → AllDue arrays st cs × Kept first (arraysAfterAll arrays (events st cs)) (final st cs)
+    → AllDue (geometry (first .held)) arrays st cs × Kept first (arraysAfterAll (geometry (first .held)) arrays (events st cs)) (final st cs)
 unfolding AllDue arraysAfterAll events final
 run-due first [] st arrays kept = (tt, kept)
 run-due first (c ∷ cs) st arrays kept =
     let s = call-due first st arrays kept c in
-    let r = run-due first cs (next st c) (arraysAfter arrays (outcome st c .answer)) (s .1) in
+    let r = run-due first cs (next st c) (arraysAfter (geometry (first .held)) arrays (outcome st c .answer)) (s .1) in
     ((s .0, r .0), r .1)

@@ -14,21 +14,24 @@ use Rattle.model.specs.Geometry.{sliceStart, sliceSize, ivStart, blockStart, Al
 use Rattle.model.specs.Session.{Held, Outcome, geometry, keyOf, sliceOf, offsetOf, unmapped, unless, idle}
 use Rattle.model.specs.Read.{blockOf, ReadResult, readModel, findModel}
 use Rattle.model.specs.Write.{WriteResult, rewritten, claimed, full, claimedBytes, writeModel}
+use Rattle.model.specs.Release.{releaseModel}
 use Rattle.model.specs.Close.{mapPatches, closeModel}
-use Rattle.guarantees.specs.Runs.{State, Call, Reading, Finding, Writing, Closing, Event, Reads, Finds, Writes, Closes, asEvent, outcome, next}
+use Rattle.guarantees.specs.Runs.{State, Call, Reading, Finding, Writing, Releasing, Closing, Event, Reads, Finds, Writes, Releases, Closes}
+use Rattle.guarantees.specs.Runs.{asEvent, outcome, next}
 use Rattle.guarantees.specs.Runs.{final, events, positions, left, writtenByAll, Within}
 use Rattle.model.specs.Conditions.{Enough}
-use Rattle.guarantees.specs.Rules.{heldEntry, FreeAt}
+use Rattle.guarantees.specs.Rules.{heldEntry, tableEntry, FreeAt}
 use Rattle.guarantees.specs.Points.{EqualRuns}
 use Rattle.model.proofs.Parts.{part-length, part-agree, patched-length}
 use Rattle.model.proofs.Tests.{below}
 use Rattle.model.proofs.Bounds.{offsetOf-lt, block-within, iv-within-slice}
 use Rattle.model.proofs.Requests.{readRefusal-none, asked-slice}
 use Rattle.guarantees.proofs.Patches.{rangesOf, patched-both, patched-written}
-use Rattle.guarantees.proofs.SoundTables.{OpenVolume, tableEntry}
+use Rattle.guarantees.proofs.SoundTables.{OpenVolume}
 use Rattle.guarantees.proofs.Blocks.{deciphered-same, claimed-length}
-use Rattle.guarantees.proofs.Cases.{Stands, Asked, readRefusalOf, Writable, write-stores, close-cases}
-use Rattle.guarantees.proofs.Claims.{claimed-entry-cases}
+use Rattle.guarantees.proofs.Cases.{Stands, Asked, readRefusalOf, Writable, write-stores, release-cases, close-cases}
+use Rattle.guarantees.proofs.Entries.{set-entry-cases}
+use Rattle.guarantees.proofs.Releases.{released-cases}
 use Rattle.guarantees.proofs.Stored.{stores, run-patched, run-ranges}
 
 -- Two devices that hold the same bytes in a slice.
@@ -108,6 +111,7 @@ module _ (s t : List ℕ) (h : Held) (alike : Alike (record { device = s; held =
   same-outcome (Finding i a) = ap (λ (r : List ℕ). idle h (Finds i a r)) (find-same i a)
   same-outcome (Writing i a text perm tape) =
       ap (λ (n : ℕ). asEvent (Writes i a text perm tape) (writeModel n h i a text perm tape)) (alike .long)
+  same-outcome (Releasing i σ perm) = ap (λ (n : ℕ). asEvent (Releases i σ perm) (releaseModel n h i σ perm)) (alike .long)
   same-outcome (Closing tape) = ap (λ (n : ℕ). asEvent (Closes tape) (closeModel n h tape)) (alike .long)
 
   -- The same outcome on both keeps them alike.
@@ -155,8 +159,22 @@ module _ (s t : List ℕ) (h : Held) (alike : Alike (record { device = s; held =
               (λ c. patched-written p (o .patches) s t (alike .long) (mine p (rw (c .2) at lo) (rw (c .2) at hi)))
               (λ c. patched-both p (o .patches) s t (alike .long)
               (alike .slices j τ oj hτ (rw (c .1) at m) p (rw (c .1) at lo) (rw (c .1) at hi)))
-              (claimed-entry-cases (length s) h i (sliceOf g a) (offsetOf g a) ψ place text tape (w .stands) (w .asked .volume)
+              (set-entry-cases (length s) h i (sliceOf g a) ψ (w .stands) (w .asked .volume)
               (asked-slice (w .stands) (w .asked .volume) (w .asked .address) .0) j τ hτ)
+
+  -- After a release fewer slices are mapped.
+  release-after : (i σ : ℕ) (perm : List ℕ) → After (releaseModel (length s) h i σ perm)
+  unfolding patched
+  release-after i σ perm =
+      release-cases (length s) h i σ perm After (λ r e. alike)
+      (λ w. record {
+        held = refl;
+        long = alike .long;
+        slices = λ j τ oj hτ m p lo hi.
+            ⊎-elim (λ c. absurd (omega (arith, m, c .2, w .stands .usable .allowed .slices-most)))
+            (λ c. alike .slices j τ oj hτ (rw (c .1) at m) p (rw (c .1) at lo) (rw (c .1) at hi))
+            (released-cases (length s) h i σ perm w j τ hτ);
+      })
 
   -- After a close nothing is mapped.
   close-after : (tape : List ℕ) → After (closeModel (length s) h tape)
@@ -176,6 +194,7 @@ module _ (s t : List ℕ) (h : Held) (alike : Alike (record { device = s; held =
   after (Reading i a room) = alike
   after (Finding i a) = alike
   after (Writing i a text perm tape) = let w = write-after i a text perm tape in record { held = refl; long = w .long; slices = w .slices }
+  after (Releasing i σ perm) = let w = release-after i σ perm in record { held = refl; long = w .long; slices = w .slices }
   after (Closing tape) = let w = close-after tape in record { held = refl; long = w .long; slices = w .slices }
 
 -- ---- the list

@@ -16,11 +16,11 @@ use Rattle.model.specs.Opening.{OpenOutcome, storedEntry}
 use Rattle.model.specs.Read.{deciphered}
 use Rattle.guarantees.specs.Runs.{State, Call, outcome, final, events, writtenByAll, Within}
 use Rattle.guarantees.specs.Arrays.{Arrays, arraysAfterAll, AllDue}
+use Rattle.guarantees.specs.Rules.{tableEntry}
 use Rattle.guarantees.specs.Openings.{AllUnlocked}
 use Rattle.guarantees.specs.Points.{Handed, Lent, opens, holds, begin, mapEntry, firstArrays, Opens, Run, Agree, EqualRuns}
 use Rattle.guarantees.specs.Points.{Points23, NoSliceTwice}
 use Rattle.model.proofs.Requests.{asked-slice}
-use Rattle.guarantees.proofs.SoundTables.{tableEntry}
 use Rattle.guarantees.proofs.Opened.{holding, Served, served, served-is, openedBy, served-sound, served-stands, served-opens, served-entry}
 use Rattle.guarantees.proofs.Opened.{served-taken, served-cell, served-keys, served-same}
 use Rattle.guarantees.proofs.Cases.{write-stores}
@@ -72,13 +72,16 @@ module _ (s : List ℕ) (x : Handed) (l : Lent) (k : ℕ) (sv : Served s x l k) 
       })
       same
 
-  -- Every answer of a list is the one that such arrays give.
-  pub begins-due : (arrays : Arrays) → Begins arrays (opens s x l) → (cs : List Call)
-      → AllDue arrays (begin s x l) cs × Kept (begin s x l) (arraysAfterAll arrays (events (begin s x l) cs)) (final (begin s x l) cs)
-  begins-due arrays same cs = run-due (begin s x l) cs (begin s x l) arrays (begins arrays same)
-
   geometry-is : geometry (holds s x l) ≡ g
   geometry-is = ap (λ (o : OpenOutcome). o .session .geometry) is
+
+  -- Every answer of a list is the one that such arrays give.
+  pub begins-due : (arrays : Arrays) → Begins arrays (opens s x l) → (cs : List Call)
+      → AllDue g arrays (begin s x l) cs × Kept (begin s x l) (arraysAfterAll g arrays (events (begin s x l) cs)) (final (begin s x l) cs)
+  begins-due arrays same cs =
+      subst (λ (g′ : Geometry). AllDue g′ arrays (begin s x l) cs
+      × Kept (begin s x l) (arraysAfterAll g′ arrays (events (begin s x l) cs)) (final (begin s x l) cs)) geometry-is
+      (run-due (begin s x l) cs (begin s x l) arrays (begins arrays same))
 
   top-is : holds s x l .session .k ≡ k
   top-is = ap (λ (o : OpenOutcome). o .session .k) is

@@ -3,17 +3,14 @@
 use Prim.Native.Nat.{ℕ, _≤_, _<_}
 use mathlib.Core.Path.{_≡_}
 use mathlib.Core.Logic.{_⊎_, inl, inr, ⊎-elim}
-use Rattle.model.specs.Session.{Held, geometry, countOf, entry, unmapped}
+use Rattle.model.specs.Session.{Held, geometry, countOf, unmapped}
 use Rattle.model.specs.Conditions.{EntryFits}
+use Rattle.guarantees.specs.Rules.{tableEntry}
 use Rattle.guarantees.specs.Points.{HeldOnce}
 
 -- Volume i is one of those opened.
 abbrev pub OpenVolume : Held → (i : ℕ) → Type 0
 OpenVolume h i = i ≤ h .session .k
-
--- The entry of logical slice σ of volume i in the held map table.
-abbrev pub tableEntry : Held → (i σ : ℕ) → ℕ
-tableEntry h i σ = entry (h .maps) (geometry h) i σ
 
 pub record SoundTables (h : Held) : Type 0 where
   pub whole : (i σ : ℕ) → OpenVolume h i → σ < geometry h .p

@@ -1,11 +1,11 @@
--- The start place: what a write sets it to, that no free slice stands before it, and the bound. Assumes nothing.
-use Prim.Native.Nat.{ℕ, zero, suc, _+_, _≤_, _<_}
+-- The start place: what a write and a release set it to, that no free slice stands before it, and the bound. Assumes nothing.
+use Prim.Native.Nat.{ℕ, zero, suc, _+_, _*_, _≤_, _<_, min}
 use mathlib.Core.Path.{_≡_, refl, sym, ap, _∙_, subst}
 use mathlib.Core.List.{List, [], _∷_}
 use mathlib.Core.Bool.{Bool, true, false, _||_}
-use mathlib.Core.Logic.{⊎-elim}
+use mathlib.Core.Logic.{_⊎_, inl, inr, ⊎-elim}
 use native.Mathlib.Omega.{arith}
-use native.Mathlib.Nat.{le-refl}
+use native.Mathlib.Nat.{le-refl, min-le-left, min-le-right, min-eq-left, min-eq-right}
 use lib.ListN.{length, getD, set}
 use lib.Seq.{getD-set-same, getD-set-other}
 use lib.Dec.{ltb, eqb}
@@ -19,15 +19,20 @@ use Rattle.model.specs.Conditions.{AllHeld, sliceAt}
 use Rattle.model.specs.Search.{firstFree}
 use Rattle.model.specs.Opening.{OpenOutcome}
 use Rattle.model.specs.Write.{WriteResult, rewriteOutcome, claimOutcome, writeRefusal, writeModel}
+use Rattle.model.specs.Permutation.{placeOf}
+use Rattle.model.specs.Release.{ReleaseResult, releaseModel}
 use Rattle.model.specs.Close.{CloseResult, closeModel}
-use Rattle.guarantees.specs.Runs.{State, Call, Reading, Finding, Writing, Closing, Event, Writes, Closes, asEvent, outcome, next, final, events}
-use Rattle.guarantees.specs.Rules.{FreeAt, probesAt}
+use Rattle.guarantees.specs.Runs.{State, Call, Reading, Finding, Writing, Releasing, Closing, Event, Writes, Releases, Closes}
+use Rattle.guarantees.specs.Runs.{asEvent, outcome, next, final, events}
+use Rattle.guarantees.specs.Rules.{FreeAt, probesAt, tableEntry}
 use Rattle.guarantees.specs.Points.{Handed, Lent, opens, holds, begin}
-use Rattle.guarantees.specs.StartPlaces.{Sets, NoneBefore, fromFirst, SameWrite, OnePermutation, counted, countedAll, Bounded, StartPlaces}
+use Rattle.guarantees.specs.StartPlaces.{Sets, Lowers, NoneBefore, fromFirst, SameWrite, OnePermutation, counted, countedAll}
+use Rattle.guarantees.specs.StartPlaces.{releasing, releasesIn, Bounded, StartPlaces}
 use Rattle.model.proofs.Tests.{equal, below}
 use Rattle.model.proofs.Requests.{writeRefusal-none}
 use Rattle.model.proofs.Searches.{firstFree-skips}
-use Rattle.guarantees.proofs.Cases.{early-not-22, write-cases, close-cases}
+use Rattle.guarantees.proofs.Cases.{early-not-22, write-cases, Releasable, release-cases, close-cases}
+use Rattle.guarantees.proofs.Releases.{released-owner}
 use Rattle.guarantees.proofs.Opened.{Served, served, served-is, openedBy, served-start, served-place}
 
 choose-same : {A : Type 0} (b : Bool) (x : A) → choose b x x ≡ x
@@ -59,51 +64,95 @@ write-sets n h i a text perm tape =
           full = λ probes e. let q : number ≡ 22 = cc in absurd (ne q);
         }
 
+-- ---- what a release sets it to
+
+-- The lower of two numbers is one of them.
+min-cases : (m n : ℕ) → ((m ≤ n) × (min m n ≡ m)) ⊎ ((n ≤ m) × (min m n ≡ n))
+min-cases m n = ⊎-elim (λ l. let k : m ≤ n = omega (arith, l) in inl (k, min-eq-left k)) (λ l. inr (l, min-eq-right l)) (below m n)
+
+release-lowers : (n : ℕ) (h : Held) (i σ : ℕ) (perm : List ℕ) → Lowers h perm (releaseModel n h i σ perm)
+release-lowers n h i σ perm =
+    release-cases n h i σ perm (Lowers h perm)
+    (λ r e ψ q. let z : _≡_ {A = ℕ} 0 1 = cc in absurd (omega arith))
+    (λ w ψ q. let same : tableEntry h i σ ≡ ψ = cc in
+    (placeOf (tableEntry h i σ) perm, w .place .inside, w .place .is ∙ same, min-cases (h .session .start) _))
+
 -- ---- the bound: one call
 
--- The start place moves on by the places counted and stays at or below P, and the geometry stays.
+-- The start place moves on by the places counted, but for a release, which takes it back by at most P; it stays at or below P, and the
+-- geometry stays.
 record Moves (h : Held) (o : Outcome Event) : Type 0 where
-  adds : o .held .session .start ≡ h .session .start + counted (o .answer)
+  adds : ((releasing (o .answer) ≡ 0) × (o .held .session .start ≡ h .session .start + counted (o .answer)))
+      ⊎ ((releasing (o .answer) ≡ 1) × (counted (o .answer) ≡ 0))
   inside : h .session .start ≤ geometry h .p → o .held .session .start ≤ geometry h .p
   geo : geometry (o .held) ≡ geometry h
 
 -- A call that leaves the start place and counts nothing.
-stays : {h : Held} {o : Outcome Event} → o .held .session .start ≡ h .session .start → counted (o .answer) ≡ 0 → geometry (o .held) ≡ geometry h
-    → Moves h o
-stays s c g = record { adds = omega (arith, s, c); inside = λ l. omega (arith, s, l); geo = g }
+stays : {h : Held} {o : Outcome Event} → releasing (o .answer) ≡ 0 → o .held .session .start ≡ h .session .start → counted (o .answer) ≡ 0
+    → geometry (o .held) ≡ geometry h → Moves h o
+stays r s c g = record { adds = inl (r, omega (arith, s, c)); inside = λ l. omega (arith, s, l); geo = g }
 
 moves : (st : State) (c : Call) → Moves (st .held) (outcome st c)
 unfolding outcome
-moves st (Reading i a room) = stays refl refl refl
-moves st (Finding i a) = stays refl refl refl
+moves st (Reading i a room) = stays refl refl refl refl
+moves st (Finding i a) = stays refl refl refl refl
 moves st (Writing i a text perm tape) =
     let h = st .held in
     write-cases (length (st .device)) h i a text perm tape (λ (o : Outcome WriteResult). Moves h (asEvent (Writes i a text perm tape) o))
-    (λ r e. stays refl (choose-same (eqb (suc r) 5 || eqb (suc r) 21) 0) refl)
-    (λ w l s. stays refl refl refl)
-    (λ w l s. stays refl refl refl)
-    (λ w u place f. stays refl refl refl)
-    (λ w u f. record { adds = omega (arith, w .stands .usable .place); inside = λ l. le-refl (geometry h .p); geo = refl })
-    (λ w u place f s. stays refl refl refl)
-    (λ w u ψ place f q s. record { adds = omega (arith, f .from); inside = λ l. omega (arith, f .inside, w .places); geo = refl })
+    (λ r e. stays refl refl (choose-same (eqb (suc r) 5 || eqb (suc r) 21) 0) refl)
+    (λ w l s. stays refl refl refl refl)
+    (λ w l s. stays refl refl refl refl)
+    (λ w u place f. stays refl refl refl refl)
+    (λ w u f. record { adds = inl (refl, omega (arith, w .stands .usable .place)); inside = λ l. le-refl (geometry h .p); geo = refl })
+    (λ w u place f s. stays refl refl refl refl)
+    (λ w u ψ place f q s. record {
+      adds = inl (refl, omega (arith, f .from));
+      inside = λ l. omega (arith, f .inside, w .places);
+      geo = refl;
+    })
+moves st (Releasing i σ perm) =
+    let h = st .held in
+    release-cases (length (st .device)) h i σ perm (λ (o : Outcome ReleaseResult). Moves h (asEvent (Releases i σ perm) o))
+    (λ r e. stays refl refl refl refl)
+    (λ w. record {
+      adds = inr (refl, refl);
+      inside = λ l. omega (arith, l, min-le-left (h .session .start) (placeOf (tableEntry h i σ) perm));
+      geo = refl;
+    })
 moves st (Closing tape) =
     close-cases (length (st .device)) (st .held) tape (λ (o : Outcome CloseResult). Moves (st .held) (asEvent (Closes tape) o))
-    (λ r e. stays refl refl refl) (λ s enough. stays refl refl refl)
+    (λ r e. stays refl refl refl refl) (λ s enough. stays refl refl refl refl)
 
 -- ---- the bound: the list
 
-run-adds : (cs : List Call) (st : State) → final st cs .held .session .start ≡ st .held .session .start + countedAll (events st cs)
-unfolding final events countedAll
-run-adds [] st = omega arith
-run-adds (c ∷ cs) st = omega (arith, run-adds cs (next st c), moves st c .adds)
+-- Without releases the places counted add up.
+run-adds : (cs : List Call) (st : State) → releasesIn (events st cs) ≡ 0
+    → final st cs .held .session .start ≡ st .held .session .start + countedAll (events st cs)
+unfolding final events countedAll releasesIn
+run-adds [] st none = omega arith
+run-adds (c ∷ cs) st none =
+    let rest = run-adds cs (next st c) (omega (arith, none)) in
+    ⊎-elim (λ k. omega (arith, rest, k .1)) (λ k. absurd (omega (arith, none, k .0))) (moves st c .adds)
 
-run-inside : (cs : List Call) (st : State) (p : ℕ) → geometry (st .held) .p ≡ p → st .held .session .start ≤ p
-    → (geometry (final st cs .held) .p ≡ p) × (final st cs .held .session .start ≤ p)
-unfolding final
-run-inside [] st p g l = (g, l)
-run-inside (c ∷ cs) st p g l =
+-- In a session whose start place is at most P it stays so, and each release takes back at most P.
+record Within-bound (st : State) (p : ℕ) (cs : List Call) : Type 0 where
+  inside : final st cs .held .session .start ≤ p
+  back : st .held .session .start + countedAll (events st cs) ≤ final st cs .held .session .start + p * releasesIn (events st cs)
+
+run-bound : (cs : List Call) (st : State) (p : ℕ) → geometry (st .held) .p ≡ p → st .held .session .start ≤ p → Within-bound st p cs
+unfolding final events countedAll releasesIn
+run-bound [] st p g l = record { inside = l; back = omega arith }
+run-bound (c ∷ cs) st p g l =
     let m = moves st c in
-    run-inside cs (next st c) p (ap (λ (z : Geometry). z .p) (m .geo) ∙ g) (omega (arith, m .inside (omega (arith, l, g)), g))
+    let r = run-bound cs (next st c) p (ap (λ (z : Geometry). z .p) (m .geo) ∙ g) (omega (arith, m .inside (omega (arith, l, g)), g)) in
+    let more = releasesIn (events (next st c) cs) in
+    let times : (x : ℕ) → releasing (outcome st c .answer) ≡ x → p * (releasing (outcome st c .answer) + more) ≡ p * (x + more) =
+    λ x e. ap (λ (y : ℕ). p * (y + more)) e in
+    record {
+      inside = r .inside;
+      back =
+          ⊎-elim (λ k. omega (arith, r .back, k .1, times 0 (k .0))) (λ k. omega (arith, r .back, k .1, times 1 (k .0), l)) (m .adds);
+    }
 
 -- ---- no slice before it is free
 
@@ -145,6 +194,18 @@ close-none n h perm tape passed =
     close-cases n h tape (λ (o : Outcome CloseResult). WhileOpen perm (o .held)) (λ r e. passed)
     (λ s enough live. let z : _≡_ {A = ℕ} 0 1 = cc in absurd (omega arith))
 
+-- Before the lower of the start place and the place of the slice freed every slice is another one, and stays held.
+release-none : (n : ℕ) (h : Held) (i σ : ℕ) (perm : List ℕ) → WhileOpen perm h → WhileOpen perm (releaseModel n h i σ perm .held)
+release-none n h i σ perm passed =
+    release-cases n h i σ perm (λ (o : Outcome ReleaseResult). WhileOpen perm (o .held)) (λ r e. passed)
+    (λ w live m from l.
+    let place = placeOf (tableEntry h i σ) perm in
+    let start = h .session .start in
+    let old = passed live m from (omega (arith, l, min-le-left start place)) in
+    let other : sliceAt perm m ≡ tableEntry h i σ → ⊥ =
+    λ e. omega (arith, w .place .first m (omega (arith, l, min-le-right start place, w .place .inside)) e, l, min-le-right start place) in
+    (old .0, λ z. old .1 (sym (released-owner n h i σ perm w (sliceAt perm m) other) ∙ z)))
+
 run-none : (perm : List ℕ) (cs : List Call) (st : State) → OnePermutation perm cs → WhileOpen perm (st .held) → WhileOpen perm (final st cs .held)
 unfolding final outcome OnePermutation
 run-none perm [] st k passed = passed
@@ -154,6 +215,10 @@ run-none perm (Writing i a text other tape ∷ cs) st k passed =
     run-none perm cs _ (k .1)
     (subst (λ (p : List ℕ). WhileOpen perm (writeModel (length (st .device)) (st .held) i a text p tape .held)) (sym (k .0))
     (write-none (length (st .device)) (st .held) i a text perm tape passed))
+run-none perm (Releasing i σ other ∷ cs) st k passed =
+    run-none perm cs _ (k .1)
+    (subst (λ (p : List ℕ). WhileOpen perm (releaseModel (length (st .device)) (st .held) i σ p .held)) (sym (k .0))
+    (release-none (length (st .device)) (st .held) i σ perm passed))
 run-none perm (Closing tape ∷ cs) st k passed = run-none perm cs _ k (close-none (length (st .device)) (st .held) perm tape passed)
 
 -- ---- a write does what it would have done from place 0 on
@@ -226,12 +291,19 @@ module _ (s : List ℕ) (x : Handed) (l : Lent) (k : ℕ) (sv : Served s x l k) 
   by P = subst P (sym (served-is s x l k sv))
 
   session-bounded : (cs : List Call) → Bounded st (x .geometry .p) cs
-  session-bounded cs = record { most = omega (arith, run-adds cs st, inside); adds-up = run-adds cs st; inside = inside }
+  session-bounded cs =
+      record {
+        most = let all : x .geometry .p * (1 + releasesIn (events st cs)) ≡ x .geometry .p + x .geometry .p * releasesIn (events st cs) = omega arith in
+            omega (arith, all, bound .back, bound .inside);
+        adds-up = run-adds cs st;
+        given-back = bound .back;
+        inside = bound .inside;
+      }
     where
-      inside : final st cs .held .session .start ≤ x .geometry .p
-      inside =
-          run-inside cs st (x .geometry .p) (by (λ (o : OpenOutcome). o .session .geometry .p ≡ x .geometry .p) refl)
-          (by (λ (o : OpenOutcome). o .session .start ≤ x .geometry .p) (served-place s x l k sv)) .1
+      bound : Within-bound st (x .geometry .p) cs
+      bound =
+          run-bound cs st (x .geometry .p) (by (λ (o : OpenOutcome). o .session .geometry .p ≡ x .geometry .p) refl)
+          (by (λ (o : OpenOutcome). o .session .start ≤ x .geometry .p) (served-place s x l k sv))
 
   first-none : WhileOpen (x .perm) (holds s x l)
   first-none live =
@@ -242,6 +314,7 @@ pub start-places : StartPlaces
 start-places =
     record {
       sets = write-sets;
+      lowers = release-lowers;
       found = λ owners p perm start inside before. sym (firstFree-skips owners p perm 0 start (omega arith) inside before);
       same = write-same;
       none-before = λ s x l k e cs one live. run-none (x .perm) cs (begin s x l) one (first-none s x l k (served s x l k e)) live;

@@ -11,15 +11,16 @@ use Rattle.model.specs.Parts.{part, Patch, patched}
 use Rattle.model.specs.Geometry.{sliceStart, ivStart, blockStart}
 use Rattle.model.specs.Session.{Held, Outcome, held, idle, geometry, keyOf, slot, sliceOf, offsetOf, noKeys, startingAt}
 use Rattle.model.specs.Write.{WriteResult, claimedBytes}
+use Rattle.model.specs.Release.{ReleaseResult}
 use Rattle.model.specs.Close.{CloseResult}
-use Rattle.guarantees.specs.Runs.{State, Call, Reading, Finding, Writing, Closing, Event, Writes, Closes, asEvent, outcome, next, final}
-use Rattle.guarantees.specs.Runs.{events, Range, writtenBy, writtenByAll, Within}
+use Rattle.guarantees.specs.Runs.{State, Call, Reading, Finding, Writing, Releasing, Closing, Event, Writes, Releases, Closes}
+use Rattle.guarantees.specs.Runs.{asEvent, outcome, next, final, events, Range, writtenBy, writtenByAll, Within}
 use Rattle.guarantees.specs.Rules.{heldEntry}
 use Rattle.guarantees.specs.Effects.{heldAfter, heldAfterAll, storedBy, storedByAll, Follows}
 use Rattle.model.proofs.Parts.{part-length, patched-++}
 use Rattle.guarantees.proofs.Patches.{rangesOf, ranges-++, patched-kept}
 use Rattle.guarantees.proofs.Blocks.{claimed-length}
-use Rattle.guarantees.proofs.Cases.{write-stores, close-cases}
+use Rattle.guarantees.proofs.Cases.{write-stores, release-cases, close-cases}
 use Rattle.guarantees.proofs.MapBlocks.{mapPatches-ranges, mapPatches-stored}
 
 -- ---- one call
@@ -82,6 +83,11 @@ step st (Writing i a text perm tape) =
           ap (λ (x : ℕ). record { at = sliceStart g ψ; size = x } ∷ [])
           (claimed-length g (keyOf (h .session) i) ivs text (offsetOf g a) (part-length tape (h .position) (g .b) enough) (w .asked .size));
     })
+step st (Releasing i σ perm) =
+    let h = st .held in
+    release-cases (length (st .device)) h i σ perm (λ (o : Outcome ReleaseResult). Step h (asEvent (Releases i σ perm) o))
+    (λ r e. none refl refl refl)
+    (λ w. record { follows = record { stored = refl; held = refl }; geo = refl; top = refl; ranges = refl })
 step st (Closing tape) =
     let h = st .held in
     let K = h .session .k + 1 in

@@ -1,20 +1,22 @@
 -- Point 2, call by call: each open volume is an array of blocks, and each request has the answer that it is
--- due; volume i has N × S blocks (document 02, P4). Assumes nothing.
+-- due; volume i has N × S blocks (document 02, P4), and those of a released logical slice are zeros (document 02, P5). Assumes nothing.
 use Prim.Native.Nat.{ℕ, _*_, _≤_, _<_}
 use mathlib.Core.Path.{_≡_}
 use mathlib.Core.List.{List, [], _∷_}
 use mathlib.Core.Bool.{true, _&&_}
-use lib.ListN.{length}
+use lib.ListN.{length, replicate}
 use lib.Dec.{eqb}
+use Rattle.model.specs.declared.Geometry.{Geometry}
 use Rattle.model.specs.declared.Change.the-variants.{Claimed, Rewritten}
 use Rattle.model.specs.Parts.{choose}
-use Rattle.model.specs.Session.{Held, geometry, countOf, unmapped}
+use Rattle.model.specs.Session.{Held, geometry, countOf, sliceOf, unmapped}
 use Rattle.model.specs.Read.{ReadResult}
 use Rattle.model.specs.Write.{WriteResult}
+use Rattle.model.specs.Release.{ReleaseResult}
 use Rattle.model.specs.Close.{CloseResult}
-use Rattle.guarantees.specs.Runs.{State, Call, Event, Reads, Finds, Writes, Closes, outcome, next}
-use Rattle.model.specs.Conditions.{Enough, sliceAt}
-use Rattle.guarantees.specs.Rules.{heldEntry, blockIn, FreeAt, BadAt, NoneFree, probesAt, allProbes}
+use Rattle.guarantees.specs.Runs.{State, Call, Event, Reads, Finds, Writes, Releases, Closes, outcome, next}
+use Rattle.model.specs.Conditions.{Enough, Names, sliceAt}
+use Rattle.guarantees.specs.Rules.{heldEntry, tableEntry, blockIn, FreeAt, BadAt, NoneFree, probesAt, allProbes}
 use Rattle.guarantees.specs.Effects.{closeBytes}
 
 -- Block a of volume i.
@@ -25,17 +27,23 @@ Arrays = ℕ → ℕ → List ℕ
 abbrev pub put : Arrays → (i a : ℕ) → List ℕ → Arrays
 put arrays i a text j b = choose (eqb j i && eqb b a) text (arrays j b)
 
--- A served write replaces its block, and nothing else changes an array.
-unfoldable pub arraysAfter : Arrays → Event → Arrays
-arraysAfter arrays (Writes i a text perm tape (WriteResult.Served change probes)) = put arrays i a text
-arraysAfter arrays (Writes i a text perm tape (WriteResult.Refused n probes)) = arrays
-arraysAfter arrays (Reads i a room r) = arrays
-arraysAfter arrays (Finds i a bytes) = arrays
-arraysAfter arrays (Closes tape r) = arrays
+-- The arrays with zeros in the S blocks of logical slice σ of volume i.
+abbrev pub cleared : Geometry → Arrays → (i σ : ℕ) → Arrays
+cleared g arrays i σ j b = choose (eqb j i && eqb (sliceOf g b) σ) (replicate (g .b) 0) (arrays j b)
 
-unfoldable pub arraysAfterAll : Arrays → List Event → Arrays
-arraysAfterAll arrays [] = arrays
-arraysAfterAll arrays (e ∷ es) = arraysAfterAll (arraysAfter arrays e) es
+-- A served write replaces its block, a served release clears the blocks of its logical slice, and nothing else changes an array.
+unfoldable pub arraysAfter : Geometry → Arrays → Event → Arrays
+arraysAfter g arrays (Writes i a text perm tape (WriteResult.Served change probes)) = put arrays i a text
+arraysAfter g arrays (Writes i a text perm tape (WriteResult.Refused n probes)) = arrays
+arraysAfter g arrays (Releases i σ perm (ReleaseResult.Freed ψ)) = cleared g arrays i σ
+arraysAfter g arrays (Releases i σ perm (ReleaseResult.Refused n)) = arrays
+arraysAfter g arrays (Reads i a room r) = arrays
+arraysAfter g arrays (Finds i a bytes) = arrays
+arraysAfter g arrays (Closes tape r) = arrays
+
+unfoldable pub arraysAfterAll : Geometry → Arrays → List Event → Arrays
+arraysAfterAll g arrays [] = arrays
+arraysAfterAll g arrays (e ∷ es) = arraysAfterAll g (arraysAfter g arrays e) es
 
 -- ---- when each answer is due
 
@@ -88,6 +96,19 @@ pub data WriteDue (h : Held) (i a : ℕ) (text perm tape : List ℕ) : WriteResu
       → WriteDue h i a text perm tape (WriteResult.Refused 22 (allProbes h))
   refused : (r : ℕ) → Unfit h (length perm) i a (length text) r → WriteDue h i a text perm tape (WriteResult.Refused r 0)
 
+-- A release of a mapped logical slice of an open volume is served with the slice that its entry names; what is wrong first decides the
+-- refusal (document 02, P5).
+pub data ReleaseDue (h : Held) (i σ : ℕ) (perm : List ℕ) : ReleaseResult → Type 0 where
+  freed : h .session .opened ≡ true → Names (geometry h .p) perm → i ≤ h .session .k → σ < countOf (h .session) i
+      → tableEntry h i σ < geometry h .p → ReleaseDue h i σ perm (ReleaseResult.Freed (tableEntry h i σ))
+  shut : (h .session .opened ≡ true → ⊥) → ReleaseDue h i σ perm (ReleaseResult.Refused 20)
+  places : h .session .opened ≡ true → (Names (geometry h .p) perm → ⊥) → ReleaseDue h i σ perm (ReleaseResult.Refused 5)
+  volume : h .session .opened ≡ true → Names (geometry h .p) perm → h .session .k < i → ReleaseDue h i σ perm (ReleaseResult.Refused 11)
+  slice : h .session .opened ≡ true → Names (geometry h .p) perm → i ≤ h .session .k → countOf (h .session) i ≤ σ
+      → ReleaseDue h i σ perm (ReleaseResult.Refused 12)
+  none : h .session .opened ≡ true → Names (geometry h .p) perm → i ≤ h .session .k → σ < countOf (h .session) i
+      → tableEntry h i σ ≡ unmapped → ReleaseDue h i σ perm (ReleaseResult.Refused 25)
+
 -- A close of an open session is served but where the tape is short (21).
 pub data CloseDue (h : Held) (tape : List ℕ) : CloseResult → Type 0 where
   done : h .session .opened ≡ true → Enough (length tape) (h .position) (closeBytes h) → CloseDue h tape CloseResult.Closed
@@ -98,9 +119,10 @@ unfoldable pub Due : Arrays → State → Event → Type 0
 Due arrays st (Reads i a room r) = ReadDue arrays (st .held) i a room r
 Due arrays st (Finds i a bytes) = FindDue (st .device) (st .held) i a bytes
 Due arrays st (Writes i a text perm tape r) = WriteDue (st .held) i a text perm tape r
+Due arrays st (Releases i σ perm r) = ReleaseDue (st .held) i σ perm r
 Due arrays st (Closes tape r) = CloseDue (st .held) tape r
 
 -- Every answer of the list is due, by the arrays as the calls before left them.
-unfoldable pub AllDue : Arrays → State → List Call → Type 0
-AllDue arrays st [] = Unit
-AllDue arrays st (c ∷ cs) = Due arrays st (outcome st c .answer) × AllDue (arraysAfter arrays (outcome st c .answer)) (next st c) cs
+unfoldable pub AllDue : Geometry → Arrays → State → List Call → Type 0
+AllDue g arrays st [] = Unit
+AllDue g arrays st (c ∷ cs) = Due arrays st (outcome st c .answer) × AllDue g (arraysAfter g arrays (outcome st c .answer)) (next st c) cs

@@ -1,7 +1,7 @@
 -- What each call stores on the device and what is held after it, from the request and its answer alone (document 01, "Write",
--- "Close" and "Two sticks compared": written places hold the bytes of the last call that wrote there; document 02, P2 and P4). The words
--- are the documents' and not the model's. Assumes nothing.
-use Prim.Native.Nat.{ℕ, zero, suc, _+_, _*_}
+-- "Close" and "Two sticks compared": written places hold the bytes of the last call that wrote there; document 02, P2, P4 and P5). The
+-- words are the documents' and not the model's. Assumes nothing.
+use Prim.Native.Nat.{ℕ, zero, suc, _+_, _*_, min}
 use mathlib.Core.Path.{_≡_}
 use mathlib.Core.List.{List, [], _∷_, _++_}
 use mathlib.Core.Bool.{false}
@@ -13,10 +13,12 @@ use Rattle.model.specs.declared.Session.{Session}
 use Rattle.model.specs.declared.Change.the-variants.{Claimed, Rewritten}
 use Rattle.model.specs.Parts.{choose, part, joined, Patch}
 use Rattle.model.specs.Geometry.{perBlock, mapBlocks, fourBytes, mapStart, sliceStart, ivStart, blockStart}
+use Rattle.model.specs.Permutation.{placeOf}
 use Rattle.model.specs.Session.{Held, Outcome, geometry, keyOf, slot, sliceOf, offsetOf, unmapped}
 use Rattle.model.specs.Write.{WriteResult}
+use Rattle.model.specs.Release.{ReleaseResult}
 use Rattle.model.specs.Close.{CloseResult}
-use Rattle.guarantees.specs.Runs.{Event, Reads, Finds, Writes, Closes}
+use Rattle.guarantees.specs.Runs.{Event, Reads, Finds, Writes, Releases, Closes}
 
 -- ---- the tape
 
@@ -30,16 +32,21 @@ closeBytes h = 16 * mapBlocks (geometry h) * (h .session .k + 1)
 
 -- ---- what is held
 
--- A session with another start place, and one whose start place is moved on by so many places.
+-- A session with another start place, one whose start place is moved on by so many places, and one in which it is the lower of itself
+-- and a place.
 abbrev pub withStart : Session → (start : ℕ) → Session
 withStart s start = record { geometry = s .geometry; k = s .k; keys = s .keys; opened = s .opened; start = start; counts = s .counts }
 
 abbrev pub movedOn : Session → (places : ℕ) → Session
 movedOn s places = withStart s (s .start + places)
 
+abbrev pub lowered : Session → (place : ℕ) → Session
+lowered s place = withStart s (min (s .start) place)
+
 -- A rewrite draws 16 tape bytes. A claim draws B, sets its entry and its owner, and moves the start place past the places that it
 -- looked at, to the claimed place plus one; a 22 moves it in the same way, to P (`Sets` in StartPlaces; document 02, P2). No other
--- refusal changes anything. A close draws 16 for each map block and leaves marks, owners and keys 0, and a closed session with its
+-- refusal changes anything. A release draws nothing: its entry becomes the mark, the owner of the slice freed 0, and the start place the
+-- lower of itself and that slice's place in the permutation (`Lowers` in StartPlaces; document 02, P5). A close draws 16 for each map block and leaves marks, owners and keys 0, and a closed session with its
 -- geometry, k, start place and counts (document 02, P4). Nothing else changes what is held.
 unfoldable pub heldAfter : Held → Event → Held
 heldAfter h (Writes i a text perm tape (WriteResult.Served (Rewritten ψ) probes)) =
@@ -53,6 +60,14 @@ heldAfter h (Writes i a text perm tape (WriteResult.Served (Claimed ψ) probes))
     }
 heldAfter h (Writes i a text perm tape (WriteResult.Refused n probes)) =
     choose (eqb n 22) (record { maps = h .maps; owners = h .owners; position = h .position; session = movedOn (h .session) probes }) h
+heldAfter h (Releases i σ perm (ReleaseResult.Freed ψ)) =
+    record {
+      maps = set (h .maps) (slot (geometry h) i σ) unmapped;
+      owners = set (h .owners) ψ 0;
+      position = h .position;
+      session = lowered (h .session) (placeOf ψ perm);
+    }
+heldAfter h (Releases i σ perm (ReleaseResult.Refused n)) = h
 heldAfter h (Closes tape CloseResult.Closed) =
     record {
       maps = replicate (15 * geometry h .p) unmapped;
@@ -100,7 +115,7 @@ mapsStored h ivs (suc n) =
 
 -- A rewrite stores the 16 bytes drawn as the block's IV, and the ciphertext over the old block. A claim stores the B bytes drawn as
 -- the IV block, and S data blocks, each enciphered under its own IV: zeros but for the block asked for. A close stores the maps of
--- volumes 0 to k. Nothing else stores a byte.
+-- volumes 0 to k. Nothing else stores a byte, and a release does not.
 unfoldable pub storedBy : Held → Event → List Patch
 storedBy h (Writes i a text perm tape (WriteResult.Served (Rewritten ψ) probes)) =
     record { at = ivStart (geometry h) ψ (offsetOf (geometry h) a); bytes = drawn h tape 16 }
@@ -116,6 +131,7 @@ storedBy h (Writes i a text perm tape (WriteResult.Served (Claimed ψ) probes)) 
     }
     ∷ []
 storedBy h (Writes i a text perm tape (WriteResult.Refused n probes)) = []
+storedBy h (Releases i σ perm r) = []
 storedBy h (Closes tape CloseResult.Closed) = mapsStored h (drawn h tape (closeBytes h)) (h .session .k + 1)
 storedBy h (Closes tape (CloseResult.Refused n)) = []
 storedBy h (Reads i a room r) = []

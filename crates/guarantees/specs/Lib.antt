@@ -6,3 +6,4 @@ pub mod Effects
 pub mod Arrays
 pub mod Points
 pub mod StartPlaces
+pub mod GivenBack

@@ -16,10 +16,12 @@ use Rattle.model.specs.Conditions.{CountFits, Counted, TablesFit, Enough, AllHe
 use Rattle.model.specs.Opening.{OpenOutcome, OpenTo, openModel, storedEntry}
 use Rattle.model.specs.Read.{ReadResult, Filled, readModel, findModel, deciphered}
 use Rattle.model.specs.Write.{WriteResult, writeModel}
+use Rattle.model.specs.Release.{ReleaseResult, releaseModel}
 use Rattle.model.specs.Close.{CloseResult, closeModel}
 use Rattle.model.specs.Format.{FormatResult, Formatted, formatModel}
 use Rattle.guarantees.specs.Runs.{State, Call, Writing, Closing, Writes, Closes, outcome, next, final, events, positions, writtenByAll, Within}
-use Rattle.guarantees.specs.Rules.{First, readRules, writeRules, closeRules, formatTape, SearchEnds, FreeAt, probesAt, heldEntry, ivIn, blockIn}
+use Rattle.guarantees.specs.Rules.{First, readRules, writeRules, releaseRules, closeRules, formatTape, SearchEnds, FreeAt, probesAt}
+use Rattle.guarantees.specs.Rules.{heldEntry, tableEntry, ivIn, blockIn}
 use Rattle.guarantees.specs.Openings.{Lowest, Unlocked, OpenAnswered}
 use Rattle.guarantees.specs.Making.{FormatAnswered}
 use Rattle.guarantees.specs.Effects.{heldAfterAll, storedByAll, Follows}
@@ -60,6 +62,11 @@ pub data WriteAnswered (device : ℕ) (h : Held) (i a : ℕ) (text perm tape : L
   refused : (place n probes : ℕ) → (n ≡ 0 → ⊥) → SearchEnds h perm place
       → First (writeRules device h i a text perm tape place) n probes → WriteAnswered device h i a text perm tape (WriteResult.Refused n probes)
 
+-- A release is served with the slice that the entry names, or refused by the first rule that applies.
+pub data ReleaseAnswered (device : ℕ) (h : Held) (i σ : ℕ) (perm : List ℕ) : ReleaseResult → Type 0 where
+  served : First (releaseRules device h i σ perm) 0 0 → ReleaseAnswered device h i σ perm (ReleaseResult.Freed (tableEntry h i σ))
+  refused : (n : ℕ) → (n ≡ 0 → ⊥) → First (releaseRules device h i σ perm) n 0 → ReleaseAnswered device h i σ perm (ReleaseResult.Refused n)
+
 -- A close is served, or refused by the first rule that applies.
 pub data CloseAnswered (device : ℕ) (h : Held) (tape : List ℕ) : CloseResult → Type 0 where
   served : First (closeRules device h (length tape)) 0 0 → CloseAnswered device h tape CloseResult.Closed
@@ -75,6 +82,8 @@ pub record Point1 : Type 0 where
       → FindAnswered device maps owners s i a (findModel device maps owners s i a)
   pub writes : (device : ℕ) (h : Held) (i a : ℕ) (text perm tape : List ℕ)
       → WriteAnswered device h i a text perm tape (writeModel device h i a text perm tape .answer)
+  pub releases : (device : ℕ) (h : Held) (i σ : ℕ) (perm : List ℕ)
+      → ReleaseAnswered device h i σ perm (releaseModel device h i σ perm .answer)
   pub closes : (device : ℕ) (h : Held) (tape : List ℕ) → CloseAnswered device h tape (closeModel device h tape .answer)
   pub formats : (device : ℕ) (g : Geometry) (n : ℕ) (keys counts tape : List ℕ) (position : ℕ)
       → FormatAnswered device g n keys counts tape position (formatModel device g n keys counts tape position)
@@ -153,7 +162,7 @@ pub record Reopens (device : List ℕ) (y : Handed) (l : Lent) (k : ℕ) (counts
 
 pub record Run (s : List ℕ) (x : Handed) (l : Lent) (k : ℕ) (cs : List Call) : Type 0 where
   -- Every answer is the one that the arrays give, and what is held follows from the answers.
-  pub due : AllDue (firstArrays s x l) (begin s x l) cs
+  pub due : AllDue (x .geometry) (firstArrays s x l) (begin s x l) cs
   pub held : final (begin s x l) cs .held ≡ heldAfterAll (holds s x l) (events (begin s x l) cs)
   -- The device is the first one with what the calls store in order, and is its own but for the written places.
   pub stored : final (begin s x l) cs .device ≡ patched (storedByAll (holds s x l) (events (begin s x l) cs)) s
@@ -164,7 +173,7 @@ pub record Run (s : List ℕ) (x : Handed) (l : Lent) (k : ℕ) (cs : List Call)
       → (y : Handed) (l′ : Lent) → y .geometry ≡ x .geometry → y .key ≡ x .key
       → Names (y .geometry .p) (y .perm) → TablesFit (y .geometry) (length (l′ .maps)) (length (l′ .owners))
       → Reopens (next (final (begin s x l) cs) (Closing tape) .device) y l′ k (holds s x l .session .counts)
-      (arraysAfterAll (firstArrays s x l) (events (begin s x l) cs))
+      (arraysAfterAll (x .geometry) (firstArrays s x l) (events (begin s x l) cs))
 
 -- ---- point 3: two runs
 
@@ -238,7 +247,7 @@ FormattedOpens = (made : List ℕ) (x : Handed) (l : Lent) (i : ℕ) (f : Format
 
 -- From making to reading: over every list of calls each volume is an array that begins with zeros, and points 2 and 3 hold.
 pub record FromMaking (made : List ℕ) (x : Handed) (l : Lent) (i : ℕ) : Type 0 where
-  pub due : (cs : List Call) → AllDue (λ j a. replicate (x .geometry .b) 0) (begin made x l) cs
+  pub due : (cs : List Call) → AllDue (x .geometry) (λ j a. replicate (x .geometry .b) 0) (begin made x l) cs
   pub guarantee : Guarantee made x l i
 
 -- What is handed to a formatting is right: the geometry, 1 to 15 keys of 32 bytes, a count of 1 to P for each, and a tape that is long

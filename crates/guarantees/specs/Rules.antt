@@ -1,6 +1,6 @@
 -- Point 1 (README.md, "What is proved"): the listed refusals of each call in their listed order, each with its condition (document 01,
--- "Refused for ..", and the orders of the calls; document 02, P1, P2 and P4). The conditions are the documents', in their own words and
--- not the model's. Assumes nothing.
+-- "Refused for ..", and the orders of the calls; document 02, P1, P2, P4 and P5). The conditions are the documents', in their own words
+-- and not the model's. Assumes nothing.
 use Prim.Native.Nat.{ℕ, _+_, _-_, _*_, _≤_, _<_}
 use mathlib.Core.Path.{_≡_}
 use mathlib.Core.Logic.{_⊎_}
@@ -11,7 +11,7 @@ use Rattle.model.specs.declared.Session.{Session}
 use Rattle.model.specs.Conditions.{Counted, Usable, TablesFit, EntryFits, EntryFitsAt, Enough, AllHeld, FirstFree, FirstBad, Names}
 use Rattle.model.specs.Parts.{part}
 use Rattle.model.specs.Geometry.{Allowed, deviceLength, mapBlocks, ivStart, blockStart}
-use Rattle.model.specs.Session.{Held, geometry, countOf, unmapped, entryOf, offsetOf}
+use Rattle.model.specs.Session.{Held, geometry, countOf, unmapped, entry, entryOf, offsetOf}
 
 -- A refusal with the places looked at that it carries, and its condition.
 pub record Rule : Type 1 where
@@ -32,6 +32,10 @@ First (r ∷ rs) n c = (r .holds × (n ≡ r .number) × (c ≡ r .probes)) ⊎ 
 -- The entry of block address a of volume i in the held map table.
 abbrev pub heldEntry : Held → (i a : ℕ) → ℕ
 heldEntry h i a = entryOf (h .maps) (geometry h) i a
+
+-- The entry of logical slice σ of volume i there.
+abbrev pub tableEntry : Held → (i σ : ℕ) → ℕ
+tableEntry h i σ = entry (h .maps) (geometry h) i σ
 
 -- The IV and the ciphertext of the block at address a, in slice ψ of a device.
 abbrev pub ivIn : List ℕ → Geometry → (ψ a : ℕ) → List ℕ
@@ -123,6 +127,17 @@ writeRules device h i a text perm tape n =
     ∷ record { number = 22; probes = allProbes h; holds = (heldEntry h i a ≡ unmapped) × NoneFree h perm }
     ∷ record { number = 21; probes = probesAt h n; holds = (heldEntry h i a ≡ unmapped) × (Enough (length tape) (h .position) (geometry h .b) → ⊥) }
     ∷ [])))
+
+-- Release: 20, 2, 4, 5 (the whole permutation), 11, 12 (at or above N), 9 (the asked entry), 25 (document 02, P5).
+abbrev pub releaseRules : (device : ℕ) → Held → (i σ : ℕ) → (perm : List ℕ) → List Rule
+releaseRules device h i σ perm =
+    standingRules device (length (h .maps)) (length (h .owners)) (h .session)
+    ++ (rule 5 (Names (geometry h .p) perm → ⊥)
+    ∷ rule 11 (h .session .k < i)
+    ∷ rule 12 (countOf (h .session) i ≤ σ)
+    ∷ rule 9 (EntryFits (geometry h) (tableEntry h i σ) → ⊥)
+    ∷ rule 25 (tableEntry h i σ ≡ unmapped)
+    ∷ [])
 
 -- Close: 20, 2, 4, then 9 for a bad entry in rows 0 to k, one at or past its volume's N too (document 02, P4), then 21.
 abbrev pub closeRules : (device : ℕ) → Held → (tape : ℕ) → List Rule

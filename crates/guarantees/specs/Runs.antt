@@ -11,6 +11,7 @@ use Rattle.model.specs.Geometry.{sliceStart, sliceSize, ivStart, blockStart, ma
 use Rattle.model.specs.Session.{Held, Outcome, idle, offsetOf}
 use Rattle.model.specs.Read.{ReadResult, readModel, findModel}
 use Rattle.model.specs.Write.{WriteResult, writeModel}
+use Rattle.model.specs.Release.{ReleaseResult, releaseModel}
 use Rattle.model.specs.Close.{CloseResult, closeModel}
 
 -- A device with what is held beside it.
@@ -18,11 +19,13 @@ pub record State : Type 0 where
   pub device : List ℕ
   pub held : Held
 
--- A request with what it is handed: a read the length of its buffer, a write its data, the permutation and the tape.
+-- A request with what it is handed: a read the length of its buffer, a write its data, the permutation and the tape, a release the
+-- permutation.
 pub data Call : Type 0 where
   Reading : (i a room : ℕ) → Call
   Finding : (i a : ℕ) → Call
   Writing : (i a : ℕ) → (text perm tape : List ℕ) → Call
+  Releasing : (i σ : ℕ) → (perm : List ℕ) → Call
   Closing : (tape : List ℕ) → Call
 
 -- A request with its answer.
@@ -30,6 +33,7 @@ pub data Event : Type 0 where
   Reads : (i a room : ℕ) → ReadResult → Event
   Finds : (i a : ℕ) → (bytes : List ℕ) → Event
   Writes : (i a : ℕ) → (text perm tape : List ℕ) → WriteResult → Event
+  Releases : (i σ : ℕ) → (perm : List ℕ) → ReleaseResult → Event
   Closes : (tape : List ℕ) → CloseResult → Event
 
 abbrev pub asEvent : {A : Type 0} → (A → Event) → Outcome A → Outcome Event
@@ -42,6 +46,7 @@ outcome st (Reading i a room) =
 outcome st (Finding i a) =
     idle (st .held) (Finds i a (findModel (st .device) (st .held .maps) (st .held .owners) (st .held .session) i a))
 outcome st (Writing i a text perm tape) = asEvent (Writes i a text perm tape) (writeModel (length (st .device)) (st .held) i a text perm tape)
+outcome st (Releasing i σ perm) = asEvent (Releases i σ perm) (releaseModel (length (st .device)) (st .held) i σ perm)
 outcome st (Closing tape) = asEvent (Closes tape) (closeModel (length (st .device)) (st .held) tape)
 
 -- The state that an outcome leaves of a device, and the state after a call.
@@ -79,12 +84,13 @@ mapRanges g zero = []
 mapRanges g (suc n) = mapRanges g n ++ record { at = mapStart g n; size = g .b * mapBlocks g } ∷ []
 
 -- A claim of slice ψ writes all its blocks; a rewrite in ψ at offset j the IV of data block j, and that block; a served
--- close the map blocks of volumes 0 to k; everything else nothing.
+-- close the map blocks of volumes 0 to k; everything else, a release too, nothing.
 unfoldable pub writtenBy : (g : Geometry) → (k : ℕ) → Event → List Range
 writtenBy g k (Writes i a text perm tape (WriteResult.Served (Claimed ψ) probes)) = record { at = sliceStart g ψ; size = sliceSize g } ∷ []
 writtenBy g k (Writes i a text perm tape (WriteResult.Served (Rewritten ψ) probes)) =
     record { at = ivStart g ψ (offsetOf g a); size = 16 } ∷ record { at = blockStart g ψ (offsetOf g a); size = g .b } ∷ []
 writtenBy g k (Writes i a text perm tape (WriteResult.Refused n probes)) = []
+writtenBy g k (Releases i σ perm r) = []
 writtenBy g k (Closes tape CloseResult.Closed) = mapRanges g (k + 1)
 writtenBy g k (Closes tape (CloseResult.Refused n)) = []
 writtenBy g k (Reads i a room r) = []

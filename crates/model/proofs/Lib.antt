@@ -6,6 +6,7 @@ pub mod Order
 pub mod Requests
 pub mod Cells
 pub mod Searches
+pub mod Permutations
 pub mod Blocks
 pub mod MapBlocks
 pub mod Seals

@@ -7,16 +7,18 @@ use mathlib.Core.Logic.{⊎-elim}
 use native.Mathlib.Omega.{arith}
 use lib.Dec.{ltb}
 use lib.ListN.{length}
-use borrow.Author.Tests.{leb-false, ltb-true, ltb-false, eqb-true, not-false, le-ltb, lt-leb}
+use borrow.Author.Tests.{leb-false, ltb-true, ltb-false, eqb-true, eqb-false, not-false, le-ltb, lt-leb}
 use Rattle.refusals.proofs.Refuse.{refuse-none, refuse-false}
 use Rattle.model.specs.declared.Geometry.{Geometry}
 use Rattle.model.specs.declared.Session.{Session}
 use Rattle.model.specs.Geometry.{Allowed, countIn, badCount, anyBadCount, deviceLength}
-use Rattle.model.specs.Session.{Held, countOf, blockCount, slot, sliceOf, entryOf, standing, asked, short}
+use Rattle.model.specs.Session.{Held, countOf, blockCount, slot, sliceOf, entry, entryOf, standing, asked, short}
 use Rattle.model.specs.Conditions.{CountsFit, Counted, Usable, TablesFit, EntryFits, Enough}
-use Rattle.model.specs.Opening.{missing, openRefusal}
+use Rattle.model.specs.Permutation.{missing}
+use Rattle.model.specs.Opening.{openRefusal}
 use Rattle.model.specs.Read.{readRefusal}
 use Rattle.model.specs.Write.{writeRefusal}
+use Rattle.model.specs.Release.{releaseRefusal}
 use Rattle.model.specs.Close.{closeNeed, closeRefusal}
 use Rattle.model.specs.Format.{formatNeed, formatRefusal}
 use Rattle.model.proofs.Tests.{or-true, or-false, equal-passes, badGeometry-none, badGeometry-allowed, badEntry-false, badEntry-fits}
@@ -165,6 +167,37 @@ module _ (device : ℕ) (maps owners : List ℕ) (s : Session) (i a len : ℕ) w
         let q = refuse-none _ _ _ (p .1) in
         record { none = e; stands = p .0; places = eqb-true _ _ (not-false _ (q .0)); asked = asked-none _ _ _ _ _ (q .1) }
 
+-- ---- release
+
+module _ (device : ℕ) (maps owners : List ℕ) (s : Session) (i σ : ℕ) (perm : List ℕ) where
+  -- A release that is not refused.
+  pub record Releasable : Type 0 where
+    pub stands : Stands device (length maps) (length owners) s
+    pub places : length perm ≡ s .geometry .p
+    pub named : missing (s .geometry .p) perm ≡ false
+    pub volume : i ≤ s .k
+    pub slice : σ < countOf s i
+    pub mapped : entry maps (s .geometry) i σ < s .geometry .p
+
+  pub releaseRefusal-none : releaseRefusal device maps owners s i σ perm ≡ 0 → Releasable
+  unfolding releaseRefusal
+  releaseRefusal-none e =
+      let p1 = standing-none _ _ _ _ _ e in
+      let p2 = refuse-none _ _ _ (p1 .1) in
+      let p3 = refuse-none _ _ _ (p2 .1) in
+      let p4 = refuse-none _ _ _ (p3 .1) in
+      let p5 = refuse-none _ _ _ (p4 .1) in
+      let p6 = refuse-none _ _ _ (p5 .1) in
+      let p7 = refuse-none _ _ _ (p6 .1) in
+      record {
+        stands = p1 .0;
+        places = eqb-true _ _ (not-false _ (p2 .0));
+        named = p3 .0;
+        volume = ltb-false _ _ (p4 .0);
+        slice = leb-false _ _ (p5 .0);
+        mapped = ⊎-elim (λ u. absurd (eqb-false _ _ (p7 .0) u)) (λ l. l) (badEntry-false _ _ (p6 .0));
+      }
+
 -- ---- close
 
 module _ (device : ℕ) (h : Held) (tape : ℕ) where
@@ -256,9 +289,16 @@ module _ (device : ℕ) (g : Geometry) (n keys : ℕ) (counts : List ℕ) (tape 
       ∙ refuse-false _ _ _ (equal-passes _ _ (q .keyed))
       ∙ refuse-false _ _ _ (short-enough _ _ _ (q .enough))
 
--- ---- the entry of an asked block
+-- ---- the entry of a logical slice, and of an asked block
 
--- Its logical slice is one of the volume's N, which are at most P, and its entry stands in the map table.
+-- The entry of a logical slice below N stands in the map table.
+pub slice-slot : {device maps owners : ℕ} {s : Session} (i σ : ℕ) → Stands device maps owners s → i ≤ s .k → σ < countOf s i
+    → slot (s .geometry) i σ < maps
+slice-slot {s = s} i σ h v l =
+    let count = h .usable .counted i (omega (arith, v)) in
+    rw (h .tables .0) (slot-lt (s .geometry) (h .usable .allowed) i σ (omega (arith, v, h .usable .top)) (omega (arith, l, count .1)))
+
+-- The logical slice of an asked block is one of the volume's N, which are at most P.
 pub asked-slice : {device maps owners : ℕ} {s : Session} {i a : ℕ} → Stands device maps owners s → i ≤ s .k → a < blockCount s i
     → (sliceOf (s .geometry) a < countOf s i) × (countOf s i ≤ s .geometry .p)
 asked-slice {s = s} {i = i} {a = a} h v l =
@@ -266,7 +306,4 @@ asked-slice {s = s} {i = i} {a = a} h v l =
 
 pub asked-slot : {device owners : ℕ} {maps : List ℕ} {s : Session} {i a len : ℕ} → Stands device (length maps) owners s → Asked maps s i a len
     → slot (s .geometry) i (sliceOf (s .geometry) a) < length maps
-asked-slot {s = s} {i = i} {a = a} h q =
-    let slice = asked-slice h (q .volume) (q .address) in
-    rw (h .tables .0)
-    (slot-lt (s .geometry) (h .usable .allowed) i _ (omega (arith, q .volume, h .usable .top)) (omega (arith, slice .0, slice .1)))
+asked-slot {i = i} h q = slice-slot i _ h (q .volume) (asked-slice h (q .volume) (q .address) .0)

@@ -10,6 +10,8 @@ use Rattle.model.specs.declared.Change.{Change}
 use Rattle.model.specs.declared.Change.the-variants.{Claimed, Rewritten}
 use Rattle.model.specs.declared.OpenAnswer.{OpenAnswer}
 use Rattle.model.specs.declared.OpenAnswer.the-variants as open-answer
+use Rattle.model.specs.declared.ReleaseAnswer.{ReleaseAnswer}
+use Rattle.model.specs.declared.ReleaseAnswer.the-variants as release-answer
 use Rattle.model.specs.declared.WriteAnswer.{WriteAnswer}
 use Rattle.model.specs.declared.WriteAnswer.the-variants as write-answer
 use Rattle.model.specs.Parts.{patched}
@@ -17,6 +19,7 @@ use Rattle.model.specs.Session.{Outcome}
 use Rattle.model.specs.Opening.{OpenResult, OpenTo, NotOpened, OpenOutcome}
 use Rattle.model.specs.Read.{ReadResult, Filled, Refused}
 use Rattle.model.specs.Write.{WriteResult}
+use Rattle.model.specs.Release.{ReleaseResult}
 use Rattle.model.specs.Close.{CloseResult, Closed}
 use Rattle.model.specs.Format.{FormatResult, Formatted}
 
@@ -34,6 +37,11 @@ changeSlice (Rewritten ψ) = ψ
 abbrev pub writeResult : WriteAnswer → WriteResult
 writeResult (write-answer.Served change probes) = WriteResult.Served change probes
 writeResult (write-answer.Refused r probes) = WriteResult.Refused (refusalNumber r) probes
+
+-- Release: the slice freed, or the refusal's number.
+abbrev pub releaseResult : ReleaseAnswer → ReleaseResult
+releaseResult (release-answer.Freed ψ) = ReleaseResult.Freed ψ
+releaseResult (release-answer.Refused r) = ReleaseResult.Refused (refusalNumber r)
 
 -- Close: served, or the refusal's number.
 abbrev pub closeResult : Answer → CloseResult
@@ -71,7 +79,7 @@ pub record OpenLeaves (o : OpenOutcome) (answer : OpenResult) (maps owners : Lis
   pub owned : owners ≡ o .owners
   pub handed : session ≡ o .session
 
--- What a write or a close has to leave: its answer, the device with the patches stored, tables, tape position and session.
+-- What a write, a release or a close has to leave: its answer, the device with the patches stored, tables, tape position and session.
 pub record Leaves (A : Type 0) (o : Outcome A) (before : List ℕ) (answer : A) (device maps owners : List ℕ) (position : ℕ) (session : Session)
     : Type 0 where
   pub answered : answer ≡ o .answer

@@ -1,11 +1,11 @@
 -- The starred bench cases of document 01 ("Bench cases"), as document 02 has them, as rows of one table; further rows for what they
--- leave open, for the limits of a formatting (document 02, P1), for the start place (document 02, P2) and for the counts of slices
--- (document 02, P4). Assumes nothing.
+-- leave open, for the limits of a formatting (document 02, P1), for the start place (document 02, P2), for the counts of slices
+-- (document 02, P4) and for releases (document 02, P5). Assumes nothing.
 use Prim.Native.Nat.{ℕ, _+_, _*_}
 use mathlib.Core.Path.{_≡_}
 use mathlib.Core.Bool.{Bool, true, false}
 use mathlib.Core.List.{List, [], _∷_, _++_}
-use lib.ListN.{replicate, set}
+use lib.ListN.{getD, replicate, set}
 use Rattle.field.specs.Field.{times}
 use Rattle.field.specs.Sbox.{sbox}
 use Rattle.ctr.specs.CounterMode.{increment}
@@ -16,9 +16,11 @@ use Rattle.model.specs.declared.Search.the-variants.{Free, Bad, Full}
 use Rattle.model.specs.Geometry.{badGeometry, mapBlocks, headerBlocks, deviceLength, numberAt, fourBytes, cellStart, headerStart, mapStart}
 use Rattle.model.specs.Geometry.{ivStart, blockStart, countIn}
 use Rattle.model.specs.Session.{held, startingAt, unmapped, sliceOf, offsetOf, standing, asked, noKeys}
+use Rattle.model.specs.Permutation.{placeOf}
 use Rattle.model.specs.Search.{firstFree}
 use Rattle.model.specs.Opening.{Loaded, Tables, Spoilt, settle, badHeader, withTables, noSession}
 use Rattle.model.specs.Write.{full, claimOutcome, WriteResult}
+use Rattle.model.specs.Release.{ReleaseResult, releaseModel}
 use Rattle.model.specs.Close.{closeRefusal, closedSession}
 use Rattle.model.specs.Format.{formatNeed, formatRefusal}
 
@@ -107,6 +109,22 @@ claimsFrom start owners perm tape =
 abbrev pub claims : (owners perm : List ℕ) → List ℕ
 claims owners perm = claimsFrom (withTables stickA perm 0 noKeys [] (Tables [] owners) .session .start) owners perm 1024
 
+-- The answer of a release: its number, 0 where served, and the slice freed, the mark where refused.
+abbrev pub freed : ReleaseResult → List ℕ
+freed (ReleaseResult.Freed ψ) = 0 ∷ ψ ∷ []
+freed (ReleaseResult.Refused n) = n ∷ unmapped ∷ []
+
+-- A release of logical slice σ of volume i on stick A, with the number ψ at index n of the map table and all else unmapped, every slice
+-- held: the answer, the entry at n and the start place afterwards, and the owners.
+abbrev pub releases : Session → (n ψ i σ : ℕ) → (perm : List ℕ) → List ℕ
+releases s n ψ i σ perm =
+    let o = releaseModel 52224 (held (set (replicate 60 unmapped) n ψ) (replicate 4 1) 0 s) i σ perm in
+    freed (o .answer) ++ (getD (o .held .maps) n 0 ∷ o .held .session .start ∷ o .held .owners)
+
+-- The number alone, of a release of logical slice σ of volume i where slice 2 stands at index 5, which is logical slice 1 of volume 1.
+abbrev pub releaseNumber : Session → (i σ : ℕ) → (perm : List ℕ) → ℕ
+releaseNumber s i σ perm = getD (releases s 5 2 i σ perm) 0 0
+
 -- A case: what the definitions give, and what the document says.
 pub record Case : Type 0 where
   pub given : List ℕ
@@ -150,6 +168,27 @@ cases =
     ∷ row (claimsFrom 4 (0 ∷ 0 ∷ 0 ∷ 0 ∷ []) (2 ∷ 0 ∷ 3 ∷ 1 ∷ []) 1024) (unmapped ∷ 22 ∷ 0 ∷ 4 ∷ [])
     -- A 22 leaves the tape position.
     ∷ row (full (held [] [] 7 (session stickA 0)) .held .position ∷ []) (7 ∷ [])
+    -- A, slice 2 held as logical slice 1 of volume 1: a release frees it; from start place 3 on the start place becomes 0, the place of
+    -- slice 2 in 2 0 3 1; where the slice stands at place 3 the start place stays 2 (document 02, P5).
+    ∷ row (releases (startingAt 3 (session stickA 1)) 5 2 1 1 (2 ∷ 0 ∷ 3 ∷ 1 ∷ [])) (0 ∷ 2 ∷ unmapped ∷ 0 ∷ 1 ∷ 1 ∷ 0 ∷ 1 ∷ [])
+    ∷ row (releases (startingAt 2 (session stickA 1)) 5 2 1 1 (0 ∷ 1 ∷ 3 ∷ 2 ∷ [])) (0 ∷ 2 ∷ unmapped ∷ 2 ∷ 1 ∷ 1 ∷ 0 ∷ 1 ∷ [])
+    ∷ row (placeOf 2 (2 ∷ 0 ∷ 3 ∷ 1 ∷ []) ∷ placeOf 3 (2 ∷ 0 ∷ 3 ∷ 1 ∷ []) ∷ placeOf 1 (2 ∷ 0 ∷ 3 ∷ 1 ∷ []) ∷ []) (0 ∷ 2 ∷ 3 ∷ [])
+    -- The number 4, which is no slice, is 9 and stays; an unmapped logical slice is 25, also one that neighbours a mapped one.
+    ∷ row (releases (session stickA 1) 5 4 1 1 (2 ∷ 0 ∷ 3 ∷ 1 ∷ [])) (9 ∷ unmapped ∷ 4 ∷ 0 ∷ 1 ∷ 1 ∷ 1 ∷ 1 ∷ [])
+    ∷ row (releases (session stickA 1) 5 2 1 0 (2 ∷ 0 ∷ 3 ∷ 1 ∷ [])) (25 ∷ unmapped ∷ 2 ∷ 0 ∷ 1 ∷ 1 ∷ 1 ∷ 1 ∷ [])
+    -- N 2 of volume 1: logical slice 1 is freed, 2 is 12; volume 2 is 11 in a session with k 1, also at a logical slice above its N.
+    ∷ row
+    (releaseNumber (counting 1 1 2) 1 1 (2 ∷ 0 ∷ 3 ∷ 1 ∷ []) ∷ releaseNumber (counting 1 1 2) 1 2 (2 ∷ 0 ∷ 3 ∷ 1 ∷ [])
+    ∷ releaseNumber (counting 1 1 2) 2 4 (2 ∷ 0 ∷ 3 ∷ 1 ∷ []) ∷ [])
+    (0 ∷ 12 ∷ 11 ∷ [])
+    -- A permutation that is wrong only at its last place, where slice 1 or 3 is missing, or one place short or too long, is 5, before 11;
+    -- a closed session is 20 before it.
+    ∷ row
+    (releaseNumber (session stickA 1) 1 1 (2 ∷ 0 ∷ 3 ∷ 3 ∷ []) ∷ releaseNumber (session stickA 1) 2 1 (2 ∷ 0 ∷ 3 ∷ 4 ∷ [])
+    ∷ releaseNumber (session stickA 1) 1 1 (2 ∷ 0 ∷ 1 ∷ 1 ∷ [])
+    ∷ releaseNumber (session stickA 1) 1 1 (2 ∷ 0 ∷ 3 ∷ []) ∷ releaseNumber (session stickA 1) 1 1 (2 ∷ 0 ∷ 3 ∷ 1 ∷ 1 ∷ [])
+    ∷ releaseNumber (closedSession (session stickA 1)) 1 1 [] ∷ [])
+    (5 ∷ 5 ∷ 5 ∷ 5 ∷ 5 ∷ 20 ∷ [])
     -- S-box: 00 to 63, 01 to 7c. Field: 57 times 83 is c1.
     ∷ row (sbox 0x00 ∷ sbox 0x01 ∷ times 0x57 0x83 ∷ []) (0x63 ∷ 0x7c ∷ 0xc1 ∷ [])
     -- Counter of 16 bytes FF, plus one: 16 bytes 00.

@@ -17,17 +17,20 @@
 --   VMK, VEK         the master key and the data key of a volume
 --   cell, header     `cellOf` and `headerOf` a device: 60 bytes; 1 + m blocks
 --   drawn            the tape bytes of a formatting as one list, of which the device's noise, each key and each IV is a part
+--   slice freed      the slice that a release gives back: `Freed`; its place is the one that names it in the permutation, `placeOf`
 --
--- A refusal is its number in the documents, 0 where none applies. What a write or a close does to the device is a list of patches
--- (place and bytes), made from its arguments and the device's length alone; a formatting gives the device whole.
+-- A refusal is its number in the documents, 0 where none applies. What a write, a release or a close does to the device is a list of
+-- patches (place and bytes), made from its arguments and the device's length alone; a formatting gives the device whole.
 pub mod Parts
 pub mod Geometry
+pub mod Permutation
 pub mod Session
 pub mod Search
 pub mod Opening
 pub mod Conditions
 pub mod Read
 pub mod Write
+pub mod Release
 pub mod Close
 pub mod Format
 pub mod Answers

@@ -11,6 +11,7 @@ use Rattle.model.specs.declared.Geometry.{Geometry}
 use Rattle.model.specs.declared.Session.{Session}
 use Rattle.model.specs.Parts.{choose, part}
 use Rattle.model.specs.Geometry.{badGeometry, badCount, deviceLength, perBlock, numberAt, cellOf, headerOf}
+use Rattle.model.specs.Permutation.{badPermutation}
 use Rattle.model.specs.Session.{unmapped, placed, unless, keyIn, noKeys, noCounts}
 use Rattle.model.specs.Search.{firstFree, startPlace}
 
@@ -117,17 +118,6 @@ loadMaps g header keys counts k = load (g .p) counts (mapEntries g header keys) 
 
 -- ---- the call
 
--- Whether a number is in a list.
-abbrev pub member : ℕ → List ℕ → Bool
-member x [] = false
-member x (y ∷ ys) = eqb x y || member x ys
-
--- Whether one of the slices below n is not in the permutation. A permutation of P places that names each of P slices
--- names each once.
-abbrev pub missing : ℕ → List ℕ → Bool
-missing zero perm = false
-missing (suc n) perm = missing n perm || not (member n perm)
-
 -- 1, 2, 3, 4 and 5, from the lengths of device, key and tables, and the permutation.
 unfoldable pub openRefusal : Geometry → (device key maps owners : ℕ) → (perm : List ℕ) → ℕ
 openRefusal g device key maps owners perm =
@@ -136,9 +126,8 @@ openRefusal g device key maps owners perm =
     (refuse (not (eqb key 32)) 3
     (refuse (not (eqb maps (15 * g .p))) 4
     (refuse (not (eqb owners (g .p))) 4
-    (refuse (not (eqb (length perm) (g .p))) 5
-    (refuse (missing (g .p) perm) 5
-    0))))))
+    (badPermutation (g .p) perm
+    0)))))
 
 -- The answer of an opening: the opened volume, or the refusal.
 pub data OpenResult : Type 0 where

@@ -97,14 +97,21 @@ standing device maps owners s rest =
     (refuse (not (eqb owners (s .geometry .p))) 4
     rest)))))))
 
--- 11, 12 (at or above N × S), 13 (of a buffer or text len bytes long) and 9 (of the asked entry alone, whose logical slice is below N
--- where 12 does not apply).
+-- 11, of the asked volume.
+abbrev pub askedVolume : (k i rest : ℕ) → ℕ
+askedVolume k i rest = refuse (ltb k i) 11 rest
+
+-- 9, of the asked entry alone: that of logical slice σ, which is below N where 12 does not apply.
+abbrev pub askedEntry : (maps : List ℕ) → Geometry → (i σ rest : ℕ) → ℕ
+askedEntry maps g i σ rest = refuse (badEntry (g .p) (entry maps g i σ)) 9 rest
+
+-- 11, 12 (at or above N × S), 13 (of a buffer or text len bytes long) and 9, of an asked block.
 unfoldable pub asked : (maps : List ℕ) → Session → (i a len : ℕ) → ℕ
 asked maps s i a len =
-    refuse (ltb (s .k) i) 11
+    askedVolume (s .k) i
     (refuse (leb (blockCount s i) a) 12
     (refuse (not (eqb len (s .geometry .b))) 13
-    (refuse (badEntry (s .geometry .p) (entryOf maps (s .geometry) i a)) 9
+    (askedEntry maps (s .geometry) i (sliceOf (s .geometry) a)
     0)))
 
 -- 21: the position past the end of a tape, or fewer bytes left than needed.

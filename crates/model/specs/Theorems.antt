@@ -16,21 +16,24 @@ use Rattle.model.specs.declared.Change.{Change}
 use Rattle.model.specs.declared.Change.the-variants.{Claimed, Rewritten}
 use Rattle.model.specs.declared.Search.the-variants.{Free, Bad, Full}
 use Rattle.model.specs.declared.OpenAnswer.the-variants as open-answer
+use Rattle.model.specs.declared.ReleaseAnswer.the-variants as release-answer
 use Rattle.model.specs.declared.WriteAnswer.the-variants as write-answer
 use Rattle.model.specs.Parts.{choose, part, joined, patched}
 use Rattle.model.specs.Geometry.{Allowed, countIn, perBlock, mapBlocks, headerBlocks, deviceLength, numberAt, fourBytes, cellStart, cellOf}
 use Rattle.model.specs.Geometry.{headerStart, headerOf, mapStart, sliceStart, sliceSize, ivStart, blockStart}
-use Rattle.model.specs.Session.{Held, held, Outcome, keyIn, keyOf, countOf, blockCount, slot, sliceOf, offsetOf, unmapped, noKeys}
+use Rattle.model.specs.Session.{Held, held, Outcome, geometry, keyIn, keyOf, countOf, blockCount, slot, sliceOf, offsetOf, unmapped, noKeys}
+use Rattle.model.specs.Permutation.{placeOf}
 use Rattle.model.specs.Search.{firstFree}
-use Rattle.model.specs.Conditions.{sliceAt, AllHeld, FirstFree, FirstBad}
+use Rattle.model.specs.Conditions.{sliceAt, AllHeld, FirstFree, FirstBad, Names}
 use Rattle.model.specs.Opening.{At, openCell, openHeader, vekOf, vmkBelow, sliceCount, firstCell, storedEntry, allKeys, allCounts}
 use Rattle.model.specs.Opening.{OpenResult, OpenTo, NotOpened, OpenOutcome}
 use Rattle.model.specs.Read.{deciphered, Filled, Refused}
 use Rattle.model.specs.Write.{WriteResult, claimedBytes, claimed}
+use Rattle.model.specs.Release.{ReleaseResult, released}
 use Rattle.model.specs.Close.{CloseResult, mapBlock}
 use Rattle.model.specs.Format.{lowerOpens, FormatResult, Formatted}
-use Rattle.model.specs.Answers.{openResult, changeSlice, writeResult, closeResult, readNumber, readBuffer, OpenLeaves, Leaves}
-use Rattle.model.specs.Answers.{formatNumber, formatDevice, formatPosition, FormatLeaves}
+use Rattle.model.specs.Answers.{openResult, changeSlice, writeResult, releaseResult, closeResult, readNumber, readBuffer, OpenLeaves}
+use Rattle.model.specs.Answers.{Leaves, formatNumber, formatDevice, formatPosition, FormatLeaves}
 
 -- ---- where things stand (document 01, "Geometry of a stick")
 
@@ -104,7 +107,7 @@ pub record SealingLaws : Type 0 where
 
 -- ---- what contracts read off an answer
 
--- The contract of a write or a close fixes the answer, the device and all that is held afterwards.
+-- The contract of a write, a release or a close fixes the answer, the device and all that is held afterwards.
 abbrev pub LeavesAll : (A : Type 0) → Type 0
 LeavesAll A = (o : Outcome A) (before : List ℕ) (answer : A) (device maps owners : List ℕ) (position : ℕ) (s : Session)
     → Leaves A o before answer device maps owners position s
@@ -123,6 +126,9 @@ pub record AnswerLaws : Type 0 where
   pub write-served : (change : Change) (probes : ℕ) → writeResult (write-answer.Served change probes) ≡ WriteResult.Served change probes
   pub write-refused : (r : Refusal) (probes : ℕ) → writeResult (write-answer.Refused r probes) ≡ WriteResult.Refused (refusalNumber r) probes
   pub write-leaves : LeavesAll WriteResult
+  pub release-served : (ψ : ℕ) → releaseResult (release-answer.Freed ψ) ≡ ReleaseResult.Freed ψ
+  pub release-refused : (r : Refusal) → releaseResult (release-answer.Refused r) ≡ ReleaseResult.Refused (refusalNumber r)
+  pub release-leaves : LeavesAll ReleaseResult
   pub close-served : closeResult answer.Served ≡ CloseResult.Closed
   pub close-refused : (r : Refusal) → closeResult (answer.Refused r) ≡ CloseResult.Refused (refusalNumber r)
   pub close-leaves : LeavesAll CloseResult
@@ -169,6 +175,14 @@ pub record ModelLaws : Type 0 where
   -- A claim leaves its slice owned by its volume.
   pub claimed-owner : (h : Held) (i σ j ψ place : ℕ) (text tape : List ℕ) → ψ < length (h .owners)
       → getD (claimed h i σ j ψ place text tape .held .owners) ψ 0 ≡ i + 1
+  -- The place of a slice in a permutation that names each: it names the slice, and no other place does.
+  pub place : (p : ℕ) (perm : List ℕ) (ψ : ℕ) → Names p perm → ψ < p
+      → (placeOf ψ perm < p) × (sliceAt perm (placeOf ψ perm) ≡ ψ) × ((n : ℕ) → n < p → sliceAt perm n ≡ ψ → n ≡ placeOf ψ perm)
+  -- A release leaves its entry unmapped and its slice free, and every other entry and owner as it was.
+  pub released-entry : (h : Held) (i σ ψ place n : ℕ) → n < length (h .maps)
+      → getD (released h i σ ψ place .held .maps) n 0 ≡ choose (eqb n (slot (geometry h) i σ)) unmapped (getD (h .maps) n 0)
+  pub released-owner : (h : Held) (i σ ψ place φ : ℕ) → φ < length (h .owners)
+      → getD (released h i σ ψ place .held .owners) φ 0 ≡ choose (eqb φ ψ) 0 (getD (h .owners) φ 0)
   -- Map block t of volume i begins with its IV; each of its entries deciphers to that of row i, the mark past the last.
   pub map-block : (maps : List ℕ) (g : Geometry) → Allowed g → (vek iv : List ℕ) (i t e : ℕ)
       → i * g .p + g .p ≤ length maps → length iv ≡ 16 → e < perBlock g

@@ -42,6 +42,12 @@ pub enum WriteAnswer {
     Refused { refusal: Refusal, probes: usize },
 }
 
+// The answer of a release: the slice freed, or the refusal (document 02, P5).
+pub enum ReleaseAnswer {
+    Freed(usize),
+    Refused(Refusal),
+}
+
 // The answer of an opening: the opened volume k, or the refusal.
 pub enum OpenAnswer {
     Opened(usize),
@@ -57,6 +63,12 @@ pub struct Opening {
 // What a write hands back.
 pub struct Written {
     pub answer: WriteAnswer,
+    pub session: Session,
+}
+
+// What a release hands back.
+pub struct Released {
+    pub answer: ReleaseAnswer,
     pub session: Session,
 }
 

@@ -2,14 +2,14 @@
 use Prim.Native.Nat.{ℕ, _*_, _<_}
 use mathlib.Core.Path.{_≡_, sym, _∙_}
 use mathlib.Core.List.{List}
-use mathlib.Core.Bool.{true, false}
 use borrow.Author.Tests.{eq-eqb, ne-eqb}
-use lib.ListN.{length}
 use Rattle.refusals.specs.Numbers.{refuse}
+use Rattle.refusals.proofs.Refuse.{refuse-false}
 use Rattle.model.specs.declared.Geometry.{Geometry}
 use Rattle.model.specs.Geometry.{Allowed, badGeometry, deviceLength}
-use Rattle.model.specs.Opening.{missing, openRefusal}
-use Rattle.model.proofs.Tests.{badGeometry-allowed}
+use Rattle.model.specs.Permutation.{badPermutation}
+use Rattle.model.specs.Opening.{openRefusal}
+use Rattle.model.proofs.Tests.{equal-passes, badGeometry-allowed}
 use Rattle.model.proofs.Order.{badGeometry-first}
 
 module _ (g : Geometry) (device key maps owners : ℕ) (perm : List ℕ) where
@@ -38,18 +38,13 @@ module _ (g : Geometry) (device key maps owners : ℕ) (perm : List ℕ) where
           wrong-owners h = sym (badGeometry-allowed 1 g _ ok ∙ rw (eq-eqb device, eq-eqb key, eq-eqb maps, ne-eqb owners))
 
           module _ (ho : owners ≡ g .p) where
-            pub wrong-places : (length perm ≡ g .p → ⊥) → 5 ≡ openRefusal g device key maps owners perm
-            unfolding openRefusal refuse
-            wrong-places h =
-                sym (badGeometry-allowed 1 g _ ok ∙ rw (eq-eqb device, eq-eqb key, eq-eqb maps, eq-eqb owners, ne-eqb (length perm)))
-
-            module _ (hp : length perm ≡ g .p) where
-              pub slice-missing : missing (g .p) perm ≡ true → 5 ≡ openRefusal g device key maps owners perm
-              unfolding openRefusal refuse
-              slice-missing h =
-                  sym (badGeometry-allowed 1 g _ ok ∙ rw (eq-eqb device, eq-eqb key, eq-eqb maps, eq-eqb owners, eq-eqb (length perm), h))
-
-              pub none-missing : missing (g .p) perm ≡ false → 0 ≡ openRefusal g device key maps owners perm
-              unfolding openRefusal refuse
-              none-missing h =
-                  sym (badGeometry-allowed 1 g _ ok ∙ rw (eq-eqb device, eq-eqb key, eq-eqb maps, eq-eqb owners, eq-eqb (length perm), h))
+            -- The permutation speaks.
+            pub lengths-right : badPermutation (g .p) perm 0 ≡ openRefusal g device key maps owners perm
+            unfolding openRefusal
+            lengths-right =
+                sym
+                (badGeometry-allowed 1 g _ ok
+                ∙ refuse-false _ _ _ (equal-passes _ _ hd)
+                ∙ refuse-false _ _ _ (equal-passes _ _ hk)
+                ∙ refuse-false _ _ _ (equal-passes _ _ hm)
+                ∙ refuse-false _ _ _ (equal-passes _ _ ho))

@@ -45,13 +45,7 @@ fn open_refusal(
     if owners != g.p {
         return Answer::Refused(Refusal::TableLength);
     }
-    if perm.len() != g.p {
-        return Answer::Refused(Refusal::BadPermutation);
-    }
-    if tables::is_missing(perm, g.p) {
-        return Answer::Refused(Refusal::BadPermutation);
-    }
-    Answer::Served
+    tables::check_permutation(perm, g.p)
 }
 
 // No data key.

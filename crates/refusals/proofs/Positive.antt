@@ -9,6 +9,7 @@ use Rattle.refusals.specs.declared.Refusal.{Refusal}
 use Rattle.refusals.specs.declared.Refusal.the-variants.{BadGeometry, DeviceLength, KeyLength, TableLength, BadPermutation, NoCell, HeaderTag}
 use Rattle.refusals.specs.declared.Refusal.the-variants.{HeaderGeometry, BadEntry, SliceTwice, VolumeAbove, AddressAbove, WrongLength}
 use Rattle.refusals.specs.declared.Refusal.the-variants.{MalformedLine, TagDiffers, NotOpen, TapeShort, NoFreeSlice, KeyCount, LowerCell}
+use Rattle.refusals.specs.declared.Refusal.the-variants.{SliceUnmapped}
 
 pub refusal-positive : (r : Refusal) → 0 < refusalNumber r
 refusal-positive BadGeometry = omega arith
@@ -31,6 +32,7 @@ refusal-positive TapeShort = omega arith
 refusal-positive NoFreeSlice = omega arith
 refusal-positive KeyCount = omega arith
 refusal-positive LowerCell = omega arith
+refusal-positive SliceUnmapped = omega arith
 
 -- Nor has an answer that refuses.
 pub answer-positive : {a : Answer} {r : Refusal} → a ≡ Refused r → 0 < answerNumber a

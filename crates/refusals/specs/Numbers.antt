@@ -7,7 +7,7 @@ use Rattle.refusals.specs.declared.Refusal.{Refusal}
 use Rattle.refusals.specs.declared.Refusal.the-variants.{BadGeometry, DeviceLength, KeyLength, TableLength, BadPermutation, NoCell}
 use Rattle.refusals.specs.declared.Refusal.the-variants.{HeaderTag, HeaderGeometry, BadEntry, SliceTwice, VolumeAbove, AddressAbove}
 use Rattle.refusals.specs.declared.Refusal.the-variants.{WrongLength, MalformedLine, TagDiffers, NotOpen, TapeShort, NoFreeSlice}
-use Rattle.refusals.specs.declared.Refusal.the-variants.{KeyCount, LowerCell}
+use Rattle.refusals.specs.declared.Refusal.the-variants.{KeyCount, LowerCell, SliceUnmapped}
 use Rattle.refusals.specs.declared.Answer.{Answer}
 use Rattle.refusals.specs.declared.Answer.the-variants.{Served, Refused}
 
@@ -33,6 +33,7 @@ refusalNumber TapeShort = 21
 refusalNumber NoFreeSlice = 22
 refusalNumber KeyCount = 23
 refusalNumber LowerCell = 24
+refusalNumber SliceUnmapped = 25
 
 -- The number of an answer that carries nothing more: 0 where the call was served.
 abbrev pub answerNumber : Answer → ℕ

@@ -1,4 +1,4 @@
-// What a call can be refused for (document 01; document 02 for 23, 24, the start place and the counts of slices), and the answer that
+// What a call can be refused for (document 01; document 02 for 23 to 25, the start place and the counts of slices), and the answer that
 // says no more than served or refused.
 ghost use mathlib.Core.Path.{_≡_};
 ghost use Rattle.refusals.specs.Numbers.{refusalNumber, answerNumber};
@@ -27,7 +27,7 @@ pub enum Refusal {
     SliceTwice,
     // 11: the volume is above the opened one.
     VolumeAbove,
-    // 12: the block address is at or past the volume's end.
+    // 12: the block address, or the logical slice to release, is at or past the volume's end.
     AddressAbove,
     // 13: a buffer, text, IV, tag or associated data of wrong length.
     WrongLength,
@@ -45,6 +45,8 @@ pub enum Refusal {
     KeyCount,
     // 24: a key opens a cell below its own (formatting).
     LowerCell,
+    // 25: the logical slice is unmapped (release).
+    SliceUnmapped,
 }
 
 // The answer of a call that hands back no value of its own.
@@ -78,6 +80,7 @@ pub fn refusal_number(r: Refusal) -> u8
         Refusal::NoFreeSlice => 22,
         Refusal::KeyCount => 23,
         Refusal::LowerCell => 24,
+        Refusal::SliceUnmapped => 25,
     }
 }
 

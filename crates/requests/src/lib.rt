@@ -1,11 +1,13 @@
-// The refusals that all requests of a session share: what is wrong with the session, the device and the tables, and with the
-// block that is asked for. They are tested in the order of document 01; a call adds its own before, between or behind them.
+// What the requests of a session share: their refusals for what is wrong with the session, the device and the tables, and with
+// the volume, the block or the entry that is asked for; and the session with another start place. Refusals are tested in the
+// order of documents 01 and 02; a call adds its own before, between or behind them.
 ghost use mathlib.Core.Path.{_≡_};
-ghost use Prim.Native.Nat.{_*_, _≤_};
+ghost use Prim.Native.Nat.{_*_, _≤_, _<_};
 ghost use lib.ListN.{length};
 ghost use Rattle.refusals.specs.Numbers.{answerNumber};
-ghost use Rattle.model.specs.Session.{blockCount, standing, asked};
+ghost use Rattle.model.specs.Session.{startingAt, blockCount, slot, standing, askedVolume, askedEntry, asked};
 ghost use Rattle.model.specs.Conditions.{Usable};
+use model::Geometry;
 use model::Session;
 use refusals::Answer;
 use refusals::Refusal;
@@ -45,6 +47,30 @@ pub fn check_standing(device: usize, maps: usize, owners: usize, session: Sessio
     Answer::Served
 }
 
+// 11, of a volume asked for where k is opened.
+pub fn check_volume(k: usize, volume: usize) -> Answer
+    ensures { λ r. ⌜ answerNumber r ≡ askedVolume k volume 0 ⌝ }
+{
+    if k < volume {
+        return Answer::Refused(Refusal::VolumeAbove);
+    }
+    Answer::Served
+}
+
+// 9, of the entry of a logical slice.
+pub fn check_entry(maps: &[u32], g: Geometry, volume: usize, logical: usize) -> Answer
+    requires { ⌜ slot g volume logical < length (now maps) ⌝ }
+    ensures { λ r. ⌜ answerNumber r ≡ askedEntry (now (maps .entry)) g volume logical 0 ⌝ }
+{
+    let entry = tables::entry_at(maps, g, volume, logical);
+    if entry != tables::UNMAPPED {
+        if g.p <= entry {
+            return Answer::Refused(Refusal::BadEntry);
+        }
+    }
+    Answer::Served
+}
+
 // The blocks of an open volume: N × S (document 02, P4).
 pub fn block_count(session: Session, volume: usize) -> usize
     requires { ⌜ Usable session × (volume ≤ session .k) ⌝ }
@@ -66,8 +92,9 @@ pub fn check_asked(
     requires { ⌜ Usable session × (length (now maps) ≡ 15 * session .geometry .p) ⌝ }
     ensures { λ r. ⌜ answerNumber r ≡ asked (now (maps .entry)) session volume address len ⌝ }
 {
-    if session.k < volume {
-        return Answer::Refused(Refusal::VolumeAbove);
+    let bad = check_volume(session.k, volume);
+    if let Answer::Refused(_) = bad {
+        return bad;
     }
     let g = session.geometry;
     if block_count(session, volume) <= address {
@@ -76,11 +103,14 @@ pub fn check_asked(
     if len != g.b {
         return Answer::Refused(Refusal::WrongLength);
     }
-    let entry = tables::entry_at(maps, g, volume, address / g.s);
-    if entry != tables::UNMAPPED {
-        if g.p <= entry {
-            return Answer::Refused(Refusal::BadEntry);
-        }
-    }
-    Answer::Served
+    check_entry(maps, g, volume, address / g.s)
+}
+
+// The session with another start place, from which the next claim looks.
+pub fn starting_at(session: Session, start: usize) -> Session
+    ensures { λ r. ⌜ r ≡ startingAt start session ⌝ }
+{
+    let mut moved = session;
+    moved.start = start;
+    moved
 }

@@ -117,19 +117,10 @@ pub fn carry_out(
             served(
                 Change::Claimed(slice),
                 looked,
-                starting_at(session, place + 1),
+                requests::starting_at(session, place + 1),
             )
         }
     }
-}
-
-// The session with another start place, from which the next claim looks.
-fn starting_at(session: Session, start: usize) -> Session
-    ensures { λ r. ⌜ r ≡ startingAt start session ⌝ }
-{
-    let mut moved = session;
-    moved.start = start;
-    moved
 }
 
 // A write that was refused, and one that was served.
@@ -169,6 +160,6 @@ fn no_free_slice(session: Session) -> Written
             refusal: Refusal::NoFreeSlice,
             probes: g.p - session.start,
         },
-        session: starting_at(session, g.p),
+        session: requests::starting_at(session, g.p),
     }
 }

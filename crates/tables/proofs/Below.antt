@@ -5,7 +5,7 @@ use mathlib.Core.List.{List}
 use Prim.Native.Nat.{ℕ, zero, suc, _<_}
 use native.Mathlib.Omega.{arith}
 use Rattle.model.specs.Parts.{anyBelow}
-use Rattle.model.specs.Opening.{member, missing}
+use Rattle.model.specs.Permutation.{member, missing}
 
 pub anyBelow-missing : (f : ℕ → Bool) (n : ℕ) (perm : List ℕ) → ((i : ℕ) → i < n → f i ≡ not (member i perm)) → anyBelow f n ≡ missing n perm
 unfolding anyBelow

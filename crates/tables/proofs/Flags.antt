@@ -10,7 +10,7 @@ use lib.ListN.{length, getD, set, drop, replicate, length-set, length-replicate,
 use lib.Seq.{drop-cons, getD-set-same, getD-set-other}
 use lib.Dec.{eqb}
 use Rattle.model.specs.Parts.{choose}
-use Rattle.model.specs.Opening.{member, missing}
+use Rattle.model.specs.Permutation.{member, missing}
 use Rattle.tables.specs.Flagged.{flagged, anyZero}
 use Rattle.tables.proofs.Below.{anyBelow-missing}
 

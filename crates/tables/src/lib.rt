@@ -4,7 +4,8 @@ ghost use Prim.Native.Nat.{_+_, _*_, _≤_, _<_};
 ghost use lib.ListN.{length, replicate, set};
 ghost use Rattle.refusals.specs.Numbers.{answerNumber};
 ghost use Rattle.model.specs.Session.{slot, entry, unmapped, placed};
-ghost use Rattle.model.specs.Opening.{missing, settle, Tables};
+ghost use Rattle.model.specs.Permutation.{missing, badPermutation, placeOf};
+ghost use Rattle.model.specs.Opening.{settle, Tables};
 ghost use Rattle.model.specs.Search.{firstFree, startPlace};
 ghost use Rattle.model.specs.Close.{anyBad};
 ghost use Rattle.tables.specs.Flagged.{flagged, anyZero};
@@ -85,6 +86,24 @@ pub fn assign(
     owners[slice] = (volume + 1) as u8;
 }
 
+// A slice given back by a logical slice of a volume: its entry is the mark, and its owner 0 (document 02, P5).
+pub fn unassign(
+    maps: &mut [u32],
+    owners: &mut [u8],
+    g: Geometry,
+    volume: usize,
+    logical: usize,
+    slice: usize,
+)
+    requires { ⌜ (slot g volume logical < length (now maps)) × (slice < length (now owners)) ⌝ }
+    ensures mapped { λ r. ⌜ now (maps .exit) ≡ set (now (maps .entry)) (slot g volume logical) unmapped ⌝ }
+    ensures owned { λ r. ⌜ now (owners .exit) ≡ set (now (owners .entry)) slice 0 ⌝ }
+{
+    let at = volume * g.p + logical;
+    maps[at] = UNMAPPED as u32;
+    owners[slice] = 0;
+}
+
 // ---- the permutation
 
 // One flag for each slice that the permutation names, in scratch memory of its own, so that the lent tables stay.
@@ -124,6 +143,34 @@ pub fn is_missing(perm: &[u32], p: usize) -> bool
     let mut named = [0u8; 4096];
     flag_named(perm, &mut named);
     any_zero(&named, p)
+}
+
+// 5, of the whole permutation: its length, then whether a slice below p is missing.
+pub fn check_permutation(perm: &[u32], p: usize) -> Answer
+    requires { ⌜ p ≤ 4096 ⌝ }
+    ensures { λ r. ⌜ answerNumber r ≡ badPermutation p (now (perm .entry)) 0 ⌝ }
+{
+    if perm.len() != p {
+        return Answer::Refused(Refusal::BadPermutation);
+    }
+    if is_missing(perm, p) {
+        return Answer::Refused(Refusal::BadPermutation);
+    }
+    Answer::Served
+}
+
+// The place of a slice in the permutation: the first that names it, the permutation's length where none does (document 02, P5).
+pub fn place_of(perm: &[u32], slice: usize) -> usize
+    ensures { λ r. ⌜ r ≡ placeOf slice (now (perm .entry)) ⌝ }
+{
+    let mut place = 0;
+    while place < perm.len() {
+        if perm[place] as usize == slice {
+            return place;
+        }
+        place += 1;
+    }
+    place
 }
 
 // The first place of the permutation, from a start on, whose slice is free.

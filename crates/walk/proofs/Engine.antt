@@ -19,7 +19,7 @@ use Rattle.model.specs.Session.{Held, Outcome, geometry, blockCount, sliceOf, o
 use Rattle.model.specs.Search.{firstFree}
 use Rattle.model.specs.Write.{WriteResult, rewritten, rewriteOutcome, claimed, full, claimOutcome, writeRefusal, writeModel}
 use Rattle.model.specs.Conditions.{EntryFits, Enough}
-use Rattle.model.specs.Opening.{member}
+use Rattle.model.specs.Permutation.{member}
 use Rattle.model.proofs.Tests.{equal-passes, badEntry-fits}
 use Rattle.model.proofs.Requests.{Stands, standing-stands, short-true}
 use Rattle.model.proofs.Bounds.{b-bounds}

@@ -14,7 +14,7 @@ use Rattle.model.specs.declared.Geometry.{Geometry}
 use Rattle.model.specs.declared.Session.{Session}
 use Rattle.model.specs.Geometry.{Allowed, badGeometry, deviceLength, blockStart}
 use Rattle.model.specs.Session.{Held, geometry, offsetOf, unmapped, startingAt}
-use Rattle.model.specs.Opening.{member}
+use Rattle.model.specs.Permutation.{member}
 use Rattle.model.specs.Conditions.{EntryFits}
 use Rattle.model.proofs.Tests.{badGeometry-none}
 use Rattle.model.proofs.Bounds.{b-bounds, bytes-small, offsetOf-lt, block-fits}

@@ -4,7 +4,7 @@ use mathlib.Core.Path.{_≡_}
 use mathlib.Core.Bool.{true}
 use mathlib.Core.List.{List, [], _∷_}
 use lib.ListN.{length}
-use Rattle.model.specs.Opening.{member}
+use Rattle.model.specs.Permutation.{member}
 use Rattle.lines.specs.Hexadecimal.{digits}
 use Rattle.lines.specs.Answers.{served}
 use Rattle.claims.specs.State.{State, start}

@@ -6,7 +6,7 @@ use native.Mathlib.Omega.{arith}
 use borrow.Author.Needs.{needs}
 use lib.ListN.{length, take, drop}
 use lib.Seq.{length-take-le, take-at}
-use Rattle.model.specs.Opening.{missing}
+use Rattle.model.specs.Permutation.{missing}
 use Rattle.frames.proofs.set_order.Statement.{statement}
 use Rattle.frames.proofs.set_order.Tie as tie
 

@@ -1,5 +1,5 @@
 -- Point 1 holds. Assumes nothing.
-use Rattle.guarantees.proofs.Answered.{open-answered, read-answered, find-answered, write-answered, close-answered}
+use Rattle.guarantees.proofs.Answered.{open-answered, read-answered, find-answered, write-answered, release-answered, close-answered}
 use Rattle.guarantees.proofs.Making.{format-answered}
 use Rattle.guarantees.proofs.Stored.{step}
 use Rattle.guarantees.proofs.point_one.Statement.{statement}
@@ -12,6 +12,7 @@ returns c =
       reads = read-answered;
       finds = find-answered;
       writes = write-answered;
+      releases = release-answered;
       closes = close-answered;
       formats = format-answered;
       follows = λ st c. step st c .follows;

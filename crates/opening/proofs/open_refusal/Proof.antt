@@ -6,8 +6,7 @@ use Rattle.refusals.proofs.Positive.{answer-positive}
 use Rattle.model.specs.Geometry.{Allowed, deviceLength}
 use Rattle.model.proofs.Tests.{badGeometry-none}
 use Rattle.chaining.proofs.Answers.{answer-served}
-use Rattle.opening.proofs.Refusals.{wrong-geometry, wrong-device, wrong-key, wrong-maps, wrong-owners}
-use Rattle.opening.proofs.Refusals.{wrong-places, slice-missing, none-missing}
+use Rattle.opening.proofs.Refusals.{wrong-geometry, wrong-device, wrong-key, wrong-maps, wrong-owners, lengths-right}
 use Rattle.opening.proofs.open_refusal.Statement.{statement}
 use Rattle.opening.proofs.open_refusal.Tie as tie
 
@@ -66,33 +65,15 @@ returns-5 c =
     let device = keyed .before in
     wrong-owners _ _ _ _ _ _ (allowed (told device)) (long device) (keyed .if2 .left) (mapped .if3 .left) (c .if4 .taken)
 
+check-permutation-requires : tie.Need-check-permutation-requires
+check-permutation-requires c κs = allowed (told (key c .before)) .slices-most
+
 returns-6 : tie.Need-returns-6
 returns-6 c =
-    let owners = c .before .before in
+    let owners = c .before in
     let device = key owners .before in
-    wrong-places _ _ _ _ _ _ (allowed (told device)) (long device) (key owners .if2 .left) (maps owners .if3 .left)
-    (owners .if4 .left) (c .if5 .taken)
-
-is-missing-requires : tie.Need-is-missing-requires
-is-missing-requires c κs = let owners = c .before .before in allowed (told (key owners .before)) .slices-most
-
-returns-7 : tie.Need-returns-7
-returns-7 c =
-    let searched = c .before in
-    let places = searched .before in
-    let owners = places .before .before in
-    let device = key owners .before in
-    slice-missing _ _ _ _ _ _ (allowed (told device)) (long device) (key owners .if2 .left) (maps owners .if3 .left)
-    (owners .if4 .left) (places .if5 .left) (sym (searched .is-missing .ensures) ∙ c .if6 .taken)
-
-returns-8 : tie.Need-returns-8
-returns-8 c =
-    let searched = c .before in
-    let places = searched .before in
-    let owners = places .before .before in
-    let device = key owners .before in
-    none-missing _ _ _ _ _ _ (allowed (told device)) (long device) (key owners .if2 .left) (maps owners .if3 .left)
-    (owners .if4 .left) (places .if5 .left) (sym (searched .is-missing .ensures) ∙ c .if6 .left)
+    c .check-permutation .ensures
+    ∙ lengths-right _ _ _ _ _ _ (allowed (told device)) (long device) (key owners .if2 .left) (maps owners .if3 .left) (owners .if4 .left)
 
 pub open-refusal-spec : {M : Type 1} → statement M
 open-refusal-spec =
@@ -108,7 +89,5 @@ open-refusal-spec =
     mul-if3
     returns-4
     returns-5
-    returns-6
-    is-missing-requires
-    returns-7
-    returns-8)
+    check-permutation-requires
+    returns-6)

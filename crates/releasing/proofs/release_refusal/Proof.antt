@@ -1,0 +1,148 @@
+-- `releasing::release_refusal` meets its contract: each return is the first refusal whose test holds. Assumes nothing.
+use Prim.Native.Nat.{_≤_, _<_}
+use mathlib.Core.Path.{_≡_, sym, ap, _∙_}
+use native.Mathlib.Omega.{arith}
+use lib.ListN.{length}
+use borrow.Author.Needs.{needs}
+use borrow.Author.Tests.{ltb-false}
+use Rattle.refusals.specs.Numbers.{answerNumber}
+use Rattle.refusals.proofs.Positive.{answer-positive}
+use Rattle.refusals.proofs.Refuse.{refuse-none}
+use Rattle.model.specs.Permutation.{badPermutation}
+use Rattle.model.specs.Session.{slot, askedVolume, askedEntry}
+use Rattle.model.proofs.Requests.{Stands, standing-none, slice-slot}
+use Rattle.releasing.proofs.Refusals.{not-standing, not-permuted, volume-above, slice-above, entry-bad, entry-unmapped, entry-mapped}
+use Rattle.releasing.proofs.release_refusal.Statement.{statement}
+use Rattle.releasing.proofs.release_refusal.Tie as tie
+
+-- ---- places of the code, and what is known there
+
+abbrev start : tie.After-check-standing → tie.Start
+start c = c .before .before .before .before
+
+module _ (c : tie.After-enum-told2) where
+  abbrev stood : tie.After-check-standing
+  stood = c .before .before
+
+  stands : let a = start stood .args in Stands (a .device) (length (a .maps .now)) (length (a .owners .now)) (a .session)
+  stands = standing-none _ _ _ _ 0 (sym (stood .check-standing .ensures) ∙ ap answerNumber (c .enum-told2 .given .1)) .0
+
+module _ (c : tie.After-enum-told4) where
+  abbrev permuted : tie.After-check-permutation
+  permuted = c .before .before
+
+  abbrev standing : tie.After-enum-told2
+  standing = permuted .before .before
+
+  named : let a = start (stood standing) .args in badPermutation (a .session .geometry .p) (a .perm .now) 0 ≡ 0
+  named = sym (permuted .check-permutation .ensures) ∙ ap answerNumber (c .enum-told4 .given .1)
+
+module _ (c : tie.After-enum-told6) where
+  abbrev asked : tie.After-check-volume
+  asked = c .before .before
+
+  volume-asked : let a = start (stood (standing (asked .before))) .args in askedVolume (a .session .k) (a .volume) 0 ≡ 0
+  volume-asked = sym (asked .check-volume .ensures) ∙ ap answerNumber (c .enum-told6 .given .1)
+
+  volume-open : let a = start (stood (standing (asked .before))) .args in a .volume ≤ a .session .k
+  volume-open = ltb-false _ _ (refuse-none _ _ _ volume-asked .0)
+
+  volume-lt : start (stood (standing (asked .before))) .args .volume < 15
+  volume-lt = omega (arith, volume-open, stands (standing (asked .before)) .usable .top)
+
+returns : tie.Need-returns
+returns c =
+    let e = c .before .before .check-standing .ensures in
+    e ∙ not-standing _ _ _ _ _ _ _ (rw e at (answer-positive (c .enum-told .given .1)))
+
+check-permutation-requires : tie.Need-check-permutation-requires
+check-permutation-requires c κs = stands (c .before) .usable .allowed .slices-most
+
+returns-2 : tie.Need-returns-2
+returns-2 c =
+    let permuted = c .before .before in
+    let e = permuted .check-permutation .ensures in
+    e ∙ not-permuted _ _ _ _ _ _ _ (stands (permuted .before .before)) (rw e at (answer-positive (c .enum-told3 .given .1)))
+
+returns-3 : tie.Need-returns-3
+returns-3 c =
+    let asked = c .before .before in
+    let e = asked .check-volume .ensures in
+    let past = asked .before in
+    e ∙ volume-above _ _ _ _ _ _ _ (stands (standing past)) (named past) (rw e at (answer-positive (c .enum-told5 .given .1)))
+
+mul-if1 : tie.Need-mul-if1
+mul-if1 c = omega (arith, volume-lt (c .before))
+
+array-read-if1 : tie.Need-array-read-if1
+array-read-if1 c = volume-lt (c .before)
+
+returns-4 : tie.Need-returns-4
+returns-4 c =
+    let told = c .before .before in
+    let past = asked told .before in
+    slice-above _ _ _ _ _ _ _ (stands (standing past)) (named past) (volume-asked told) (c .if1 .taken)
+
+module _ (c : tie.Else1) where
+  abbrev told : tie.After-enum-told6
+  told = c .before .before
+
+  abbrev past : tie.After-enum-told4
+  past = asked told .before
+
+  inside : let a = start (stood (standing past)) .args in slot (a .session .geometry) (a .volume) (a .logical) < length (a .maps .now)
+  inside = slice-slot _ _ (stands (standing past)) (volume-open told) (c .if1 .left)
+
+returns-5 : tie.Need-returns-5
+returns-5 c =
+    let checked = c .before .before in
+    let e = checked .check-entry .ensures in
+    let below = checked .before in
+    e ∙ entry-bad _ _ _ _ _ _ _ (stands (standing (past below))) (named (past below)) (volume-asked (told below)) (below .if1 .left)
+    (rw e at (answer-positive (c .enum-told7 .given .1)))
+
+module _ (c : tie.After-entry-at) where
+  abbrev below : tie.Else1
+  below = c .before .before .before .before
+
+  fits : let a = start (stood (standing (past below))) .args in askedEntry (a .maps .now) (a .session .geometry) (a .volume) (a .logical) 0 ≡ 0
+  fits = sym (c .before .before .before .check-entry .ensures) ∙ ap answerNumber (c .before .enum-told8 .given .1)
+
+returns-6 : tie.Need-returns-6
+returns-6 c =
+    let b = below (c .before) in
+    entry-unmapped _ _ _ _ _ _ _ (stands (standing (past b))) (named (past b)) (volume-asked (told b)) (b .if1 .left) (fits (c .before))
+    (sym (c .before .entry-at .ensures) ∙ c .if2 .taken)
+
+returns-7 : tie.Need-returns-7
+returns-7 c =
+    let b = below (c .before) in
+    entry-mapped _ _ _ _ _ _ _ (stands (standing (past b))) (named (past b)) (volume-asked (told b)) (b .if1 .left) (fits (c .before))
+    (λ q. c .if2 .left (c .before .entry-at .ensures ∙ q))
+
+pub release-refusal-spec : {M : Type 1} → statement M
+release-refusal-spec =
+    tie.close
+    (tie.spec
+    (λ c κs. search needs)
+    (λ c. search needs)
+    returns
+    (λ c. search needs)
+    check-permutation-requires
+    (λ c. search needs)
+    returns-2
+    (λ c. search needs)
+    (λ c κs. search needs)
+    (λ c. search needs)
+    returns-3
+    (λ c. search needs)
+    mul-if1
+    array-read-if1
+    returns-4
+    (λ c κs. inside c)
+    (λ c. search needs)
+    returns-5
+    (λ c. search needs)
+    (λ c κs. inside (c .before .before .before))
+    returns-6
+    returns-7)
