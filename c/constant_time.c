@@ -7,9 +7,9 @@
  * and reports every conditional jump and every address that is made from them. Lengths, IVs, positions, tables, the
  * device before a call and the tape, but for that of a formatting, are not hidden.
  *
- * A call that works on bit planes has to pass without a report. As many bytes of device and buffer as it made of texts
- * have to depend on what is hidden, and nothing else that it sets. A call that looks into the table of the S-box has to
- * be reported: so this test can fail. How long one instruction takes is not seen.
+ * A call that works on bit planes, or enciphers nothing, has to pass without a report. As many bytes of device and
+ * buffer as it made of texts have to depend on what is hidden, and nothing else that it sets. A call that looks into the
+ * table of the S-box has to be reported: so this test can fail. How long one instruction takes is not seen.
  *
  * Prints a line for each call and last `N passed, M failed`. Compiles as C11, and needs the headers of valgrind.
  */
@@ -71,7 +71,8 @@ static size_t depending_others(const struct stick *s)
     return depending(s->maps, HIWALGAM_VOLUMES * s->slices * sizeof *s->maps) + depending(s->owners, s->slices)
         + depending(&s->session, offsetof(hiwalgam_session, keys))
         + depending(s->session.counts, sizeof s->session.counts) + depending(&s->written, sizeof s->written)
-        + depending(&s->position, sizeof s->position) + depending(&s->answer, sizeof s->answer);
+        + depending(&s->freed, sizeof s->freed) + depending(&s->position, sizeof s->position)
+        + depending(&s->answer, sizeof s->answer);
 }
 
 /* ---- One call ------------------------------------------------------------------------------------------------- */
@@ -177,6 +178,7 @@ static void try_session(uint64_t block_bytes, uint64_t slice_blocks, uint64_t sl
     on_planes("write, a rewrite", call_write, s, block);
     on_planes("read", call_read, s, block);
     on_planes("find", call_find, s, 0);
+    on_planes("release", call_release, s, 0);
     on_planes("close", call_close, s, HIWALGAM_VOLUMES * map_blocks * map_block);
     free_stick(s);
 }

@@ -1,6 +1,6 @@
 /*
  * A first program: makes a device with two volumes of different lengths, opens both, writes the last block of the upper
- * one, closes, opens again and reads the block back.
+ * one, closes, opens again, reads the block back and gives its slice back, after which the block is zeros.
  */
 #include <stdio.h>
 #include <string.h>
@@ -13,7 +13,8 @@ enum {
     MAPS = HIWALGAM_VOLUMES * P,
     KEYS = 2,                        /* one for each volume that is made */
     VOLUME = KEYS - 1, ADDRESS = 11, /* the block that is written */
-    TAPE = DEVICE + KEYS * (88 + 16 * M) + B + KEYS * 16 * M /* a formatting, a write that claims a slice, a close */
+    /* A formatting, a write that claims a slice, two closes. */
+    TAPE = DEVICE + KEYS * (88 + 16 * M) + B + 2 * KEYS * 16 * M
 };
 
 static int refused(const char *call, uint8_t answer) {
@@ -30,6 +31,7 @@ int main(void) {
     const uint8_t *key = keys + VOLUME * HIWALGAM_KEY_BYTES; /* opens VOLUME and all below it */
     hiwalgam_session session;
     hiwalgam_written written;
+    uint64_t slice;
     size_t position = 0; /* of the tape: a call that takes random bytes moves it on */
     FILE *entropy = fopen("/dev/urandom", "rb");
 
@@ -52,6 +54,15 @@ int main(void) {
             owners, P, permutation, P, &session, sizeof session))) return 1;
     if (refused("read", hiwalgam_read(device, DEVICE, maps, MAPS, owners, P, &session, sizeof session,
             VOLUME, ADDRESS, block, B))) return 1;
-    return memcmp(block, text, B) != 0 || position != TAPE || session.volume != VOLUME || session.start_place != 1
-        || ADDRESS + 1 != session.counts[VOLUME] * S;
+    if (memcmp(block, text, B) != 0 || session.volume != VOLUME || session.start_place != 1
+        || ADDRESS + 1 != session.counts[VOLUME] * S) return 1;
+
+    if (refused("release", hiwalgam_release(device, DEVICE, maps, MAPS, owners, P, permutation, P,
+            &session, sizeof session, VOLUME, ADDRESS / S, &slice))) return 1;
+    if (refused("read", hiwalgam_read(device, DEVICE, maps, MAPS, owners, P, &session, sizeof session,
+            VOLUME, ADDRESS, block, B))) return 1;
+    if (refused("close", hiwalgam_close(device, DEVICE, maps, MAPS, owners, P, tape, TAPE, &position,
+            &session, sizeof session))) return 1;
+    memset(text, 0, B);
+    return memcmp(block, text, B) != 0 || slice != written.slice || session.start_place != 0 || position != TAPE;
 }

@@ -71,7 +71,8 @@ struct measured {
 static struct measured calls[] = {
     { "format", call_format, 0, 0 }, { "open", call_open, 0, 0 },
     { "write, a claim", call_write, 0, 0 }, { "write, a rewrite", call_write, 0, 0 },
-    { "read", call_read, 0, 0 }, { "find", call_find, 0, 0 }, { "close", call_close, 0, 0 },
+    { "read", call_read, 0, 0 }, { "find", call_find, 0, 0 }, { "release", call_release, 0, 0 },
+    { "close", call_close, 0, 0 },
     { "counter_mode", call_counter_mode, 0, 0 }, { "keystream_at", call_keystream_at, 0, 0 },
     { "gcm_seal", call_gcm_seal, 0, 0 }, { "gcm_open", call_gcm_open, 0, 0 }
 };

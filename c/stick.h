@@ -26,6 +26,7 @@ struct stick {
     size_t position;
     hiwalgam_session session;
     hiwalgam_written written;
+    uint64_t freed; /* the slice that a release set */
     uint8_t keys[HIWALGAM_VOLUMES * HIWALGAM_KEY_BYTES];
     uint64_t counts[HIWALGAM_VOLUMES];
     uint8_t iv[HIWALGAM_IV_BYTES];
@@ -126,6 +127,14 @@ static inline void call_write(struct stick *s)
                                s->tape, s->tape_length, &s->position, &s->session, sizeof s->session,
                                HIWALGAM_VOLUMES - 1, 0, s->text, (size_t)s->geometry.block_bytes,
                                &s->written, sizeof s->written);
+}
+
+/* Releases the logical slice of the block that call_write writes. */
+static inline void call_release(struct stick *s)
+{
+    s->answer = hiwalgam_release(s->device, s->device_length, s->maps, HIWALGAM_VOLUMES * s->slices,
+                                 s->owners, s->slices, s->permutation, s->slices, &s->session, sizeof s->session,
+                                 HIWALGAM_VOLUMES - 1, 0, &s->freed);
 }
 
 static inline void call_close(struct stick *s)

@@ -12,16 +12,17 @@
  *
  * What the caller has to keep to, everywhere:
  *
- * - Each pointer but that to the tape position is followed by a length: of a list the number of its elements
- *   (not of its bytes), of a struct its sizeof. The pointer is valid for that length, and what is not const
- *   may be written. What a call sets needs no value before it.
- * - Lists of uint32_t and uint64_t, and the tape position, are aligned as the ABI says. Of bytes and structs no
- *   alignment is asked.
- * - NULL may be passed with length 0, which is then judged as any other length. The tape position is never NULL.
+ * - Each pointer but those to the tape position and to the slice freed is followed by a length: of a list the
+ *   number of its elements (not of its bytes), of a struct its sizeof. The pointer is valid for that length, and
+ *   what is not const may be written. What a call sets needs no value before it.
+ * - Lists of uint32_t and uint64_t, the tape position and the slice freed are aligned as the ABI says. Of bytes and
+ *   structs no alignment is asked.
+ * - NULL may be passed with length 0, which is then judged as any other length. The pointers to the tape position
+ *   and to the slice freed are never NULL.
  * - The buffers of one call do not overlap, but for those that are const.
  * - One session at a time: from an opening to its close nothing but these calls alters device, tables, tape
- *   position and session, and each write is handed the permutation of the opening. Tape bytes are random, and
- *   none is used twice.
+ *   position and session, and each write and release is handed the permutation of the opening. Tape bytes are
+ *   random, and none is used twice.
  * - The platform is x86-64 Linux: 64-bit size_t, numbers with the least significant byte first. A call takes
  *   up to 32 KiB of stack.
  *
@@ -51,7 +52,7 @@ enum hiwalgam_answer {
     HIWALGAM_BAD_ENTRY = 9,       /* a map entry that is no slice, or is at or past N, is not HIWALGAM_UNMAPPED */
     HIWALGAM_SLICE_TWICE = 10,    /* a slice is mapped twice */
     HIWALGAM_VOLUME_ABOVE = 11,   /* the volume is above the opened one */
-    HIWALGAM_ADDRESS_ABOVE = 12,  /* the block is past the end of the volume: at or above N x S */
+    HIWALGAM_ADDRESS_ABOVE = 12,  /* the block is at or above N x S, or the logical slice to release at or above N */
     HIWALGAM_WRONG_LENGTH = 13,   /* a buffer, text, IV, tag, associated data or struct has a wrong length */
     HIWALGAM_MALFORMED_LINE = 14, /* of the program slicewalk; no function answers it */
     HIWALGAM_TAG_DIFFERS = 15,    /* the tag is wrong */
@@ -59,7 +60,8 @@ enum hiwalgam_answer {
     HIWALGAM_TAPE_SHORT = 21,     /* the tape has fewer bytes left than the call takes */
     HIWALGAM_NO_FREE_SLICE = 22,  /* no slice from the start place on is free for a claim */
     HIWALGAM_KEY_COUNT = 23,      /* no key, or more than 15 */
-    HIWALGAM_LOWER_CELL = 24      /* a key opens the cell of a lower volume */
+    HIWALGAM_LOWER_CELL = 24,     /* a key opens the cell of a lower volume */
+    HIWALGAM_SLICE_UNMAPPED = 25  /* the logical slice to release has no slice */
 };
 
 /* Volumes of a stick, numbered from 0, and the bytes of a key, an IV and a tag. */
@@ -79,7 +81,7 @@ enum hiwalgam_answer {
 #define HIWALGAM_POSITION_LIMIT 1099511627776u
 
 /*
- * How a device is divided: P slices, which volumes take as they need them, of S data blocks of B bytes.
+ * How a device is divided: P slices, which volumes take and give back, of S data blocks of B bytes.
  *
  * Each volume has m map blocks: P / 252 for B 1024 and P / 1020 for B 4096, rounded up. The device has
  * B x (1 + 15 x (1 + m) + P x (S + 1)) bytes. A volume has N x S blocks, addressed from 0: N, 1 to P, is its own
@@ -96,9 +98,9 @@ typedef struct hiwalgam_geometry {
  * it is. It holds the keys of the open volumes, and how long each is: counts[v] x S blocks for volume v.
  * A caller that raises a count can make a device that is refused by 9 at its next opening.
  *
- * A read, a write and a close refuse by 20 a session that is closed, or whose geometry is not allowed, whose
- * volume is above 14, whose start place is above P, or of whose counts 0 to k one is not 1 to P. Counts and keys
- * above k are not looked at.
+ * A read, a write, a release and a close refuse by 20 a session that is closed, or whose geometry is not allowed,
+ * whose volume is above 14, whose start place is above P, or of whose counts 0 to k one is not 1 to P. Counts and
+ * keys above k are not looked at.
  */
 typedef struct hiwalgam_session {
     hiwalgam_geometry geometry;
@@ -186,8 +188,8 @@ uint8_t hiwalgam_format(uint8_t *device, size_t device_length,
  * free, and v + 1 where volume v holds it. The session's counts are the N of the open volumes' headers.
  *
  * permutation names each of the slices 0 to P - 1 once, in the order in which claims look for a free one; it is
- * drawn at random for a session, handed to each of its writes, and nothing has to keep it afterwards. The
- * session's start place is its first place whose slice is free, or P.
+ * drawn at random for a session, handed to each of its writes and releases, and nothing has to keep it afterwards.
+ * The session's start place is its first place whose slice is free, or P.
  *
  * Refused by 13 (geometry or session of another size: all stays); by 1, 2, 3, 4 or 5, which leave the tables
  * as they were; by 6, 7, 8, 9 or 10, which set every entry to HIWALGAM_UNMAPPED and every owner to 0. A volume's
@@ -205,7 +207,7 @@ uint8_t hiwalgam_open(const uint8_t *device, size_t device_length,
 
 /*
  * Reads a block of an open volume into buffer, which has B bytes. address counts the volume's blocks, from 0 to
- * N x S - 1. A block that was never written is zeros.
+ * N x S - 1. A block that was never written, or not since its logical slice was released, is zeros.
  *
  * Refused by 13 (session of another size), 20, 2, 4, 11, 12, 13 (buffer), 9.
  */
@@ -243,8 +245,8 @@ size_t hiwalgam_find(const uint8_t *device, size_t device_length,
  * Refused by 13 (session or written of another size), 20, 2, 4, 5 (length), 11, 12, 13 (text), 9; a claim by
  * 5 (a place that names no slice) or 22; both by 21. Refused too it sets written, unless that has another size.
  * A 22 sets the session's start place to P; no other refusal changes the session. With another permutation
- * than that of the opening a 22 can come while an earlier place is free. The probes of a session's writes,
- * those refused by 5 or 21 left out, add up to at most P.
+ * than that of the opening, here or at a release before, a 22 can come while an earlier place is free. The probes
+ * of a session's writes, those refused by 5 or 21 left out, add up to at most P x (1 + its served releases).
  */
 uint8_t hiwalgam_write(uint8_t *device, size_t device_length,
                        uint32_t *maps, size_t maps_length,
@@ -257,6 +259,27 @@ uint8_t hiwalgam_write(uint8_t *device, size_t device_length,
                        hiwalgam_written *written, size_t written_size)
     HIWALGAM_ANSWERS HIWALGAM_INOUT(1, 2) HIWALGAM_INOUT(3, 4) HIWALGAM_INOUT(5, 6) HIWALGAM_IN(7, 8)
     HIWALGAM_IN(9, 10) HIWALGAM_NOT_NULL(11) HIWALGAM_IN(16, 17);
+
+/*
+ * Releases a logical slice of an open volume, counted from 0 to N - 1: its entry becomes HIWALGAM_UNMAPPED, the
+ * owner of the slice that it had becomes 0, and its blocks read as zeros. Any open volume can claim the slice again;
+ * until then its bytes stay on the device. The session's start place becomes the lower of itself and the slice's
+ * place in permutation. Sets *slice to the slice freed.
+ *
+ * Takes no tape, and writes no byte of the device: its maps have the release only after hiwalgam_close. A session
+ * that is not closed loses it, and where the slice was claimed again also what it held.
+ *
+ * Refused by 13 (session of another size), 20, 2, 4, 5 (the whole permutation), 11, 12 (logical_slice at or above
+ * N), 9 (its entry), 25. Refused, it leaves *slice too.
+ */
+uint8_t hiwalgam_release(const uint8_t *device, size_t device_length,
+                         uint32_t *maps, size_t maps_length,
+                         uint8_t *owners, size_t owners_length,
+                         const uint32_t *permutation, size_t permutation_length,
+                         hiwalgam_session *session, size_t session_size,
+                         uint64_t volume, uint64_t logical_slice, uint64_t *slice)
+    HIWALGAM_ANSWERS HIWALGAM_IN(1, 2) HIWALGAM_INOUT(3, 4) HIWALGAM_INOUT(5, 6) HIWALGAM_IN(7, 8)
+    HIWALGAM_NOT_NULL(13);
 
 /*
  * Closes a session: the maps of the open volumes go to the device, with 16 bytes of the tape for each map

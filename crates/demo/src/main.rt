@@ -1,10 +1,11 @@
-// A demonstration of the engine: a small device image with two volumes is formatted, opened, written, read, closed and opened
-// again with either key and with one that opens nothing, and every answer is printed. Keys and tape are fixed bytes here, so that
-// each run prints the same; a real device has them drawn at random.
+// A demonstration of the engine: a small device image with two volumes is formatted, opened, written and read, a slice of it is given
+// back and claimed again, and it is closed and opened again with either key and with one that opens nothing; every answer is printed.
+// Keys and tape are fixed bytes here, so that each run prints the same; a real device has them drawn at random.
 use libc::STDOUT_FILENO;
 use model::Change;
 use model::Geometry;
 use model::OpenAnswer;
+use model::ReleaseAnswer;
 use model::Session;
 use model::WriteAnswer;
 use refusals::Answer;
@@ -74,6 +75,22 @@ fn say_write(answer: WriteAnswer, position: usize) {
     }
     say(b", tape position ");
     say_number(position);
+    say(b"\n");
+}
+
+fn say_release(answer: ReleaseAnswer, start: usize) {
+    match answer {
+        ReleaseAnswer::Freed(slice) => {
+            say(b"freed slice ");
+            say_number(slice);
+        }
+        ReleaseAnswer::Refused(r) => {
+            say(b"refused, ");
+            say_number(refusals::refusal_number(r) as usize);
+        }
+    }
+    say(b", start place ");
+    say_number(start);
     say(b"\n");
 }
 
@@ -267,6 +284,49 @@ fn show_find(device: &[u8], maps: &[u32], owners: &[u8], session: Session) {
     say(b" bytes\n");
 }
 
+fn show_release(
+    device: &[u8],
+    maps: &mut [u32],
+    owners: &mut [u8],
+    perm: &[u32],
+    session: Session,
+) -> Session {
+    say(b"release logical slice 1 of volume 1: ");
+    let r = releasing::release(device, maps, owners, perm, session, 1, 1);
+    let answer = r.answer;
+    let left = r.session;
+    say_release(answer, left.start);
+    left
+}
+
+// The slice of block 5 of volume 1 given back, which is refused once there is none.
+fn show_releases(
+    device: &[u8],
+    maps: &mut [u32],
+    owners: &mut [u8],
+    perm: &[u32],
+    session: Session,
+) -> Session {
+    let next = show_release(device, maps, owners, perm, session);
+    show_release(device, maps, owners, perm, next)
+}
+
+// After that the block is read, and written again.
+fn show_giving_back(
+    device: &mut [u8],
+    maps: &mut [u32],
+    owners: &mut [u8],
+    perm: &[u32],
+    tape: &[u8],
+    at: &mut usize,
+    session: Session,
+    text: &[u8],
+) -> Session {
+    let next = show_releases(device, maps, owners, perm, session);
+    show_read(device, maps, owners, next, 1, 5);
+    show_write(device, maps, owners, perm, tape, at, next, 1, text)
+}
+
 fn show_close(
     device: &mut [u8],
     maps: &mut [u32],
@@ -288,7 +348,7 @@ fn show_close(
 }
 
 // The writes of one session, each handed what the one before it leaves, and where the block of volume 1 is found.
-fn show_requests(
+fn show_writes(
     device: &mut [u8],
     maps: &mut [u32],
     owners: &mut [u8],
@@ -304,7 +364,22 @@ fn show_requests(
     twice
 }
 
-// What an open session is asked, its close, and a request after it.
+// What an open session is asked.
+fn show_requests(
+    device: &mut [u8],
+    maps: &mut [u32],
+    owners: &mut [u8],
+    perm: &[u32],
+    tape: &[u8],
+    at: &mut usize,
+    session: Session,
+    text: &[u8],
+) -> Session {
+    let next = show_writes(device, maps, owners, perm, tape, at, session, text);
+    show_giving_back(device, maps, owners, perm, tape, at, next, text)
+}
+
+// That, the session's close, and a request after it.
 fn show_work(
     device: &mut [u8],
     maps: &mut [u32],

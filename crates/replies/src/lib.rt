@@ -1,13 +1,14 @@
-// The answers of an opening and a write as the C functions hand them over (include/hiwalgam.h): the struct of a write's answer, and the
-// numbers that they return.
+// The answers of an opening, a write and a release as the C functions hand them over (include/hiwalgam.h): the struct of a write's
+// answer, the slice that a release freed, and the numbers that they return.
 ghost use mathlib.Core.Path.{_≡_};
 ghost use lib.ListN.{length};
-ghost use Rattle.model.specs.Answers.{openResult, changeSlice, writeResult};
-ghost use Rattle.replies.specs.Answers.{openNumber, writeNumber};
+ghost use Rattle.model.specs.Answers.{openResult, changeSlice, writeResult, releaseResult};
+ghost use Rattle.replies.specs.Answers.{openNumber, writeNumber, releaseNumber, freedSlice};
 ghost use Rattle.replies.specs.Written.{changeClaimed, writtenBytes};
 ghost use Rattle.replies.specs.Theorems.{ReplyLaws};
 use model::Change;
 use model::OpenAnswer;
+use model::ReleaseAnswer;
 use model::WriteAnswer;
 
 // ---- the answer of a write
@@ -71,6 +72,28 @@ pub fn write_number(answer: WriteAnswer) -> u8
             probes: _,
         } => 0,
         WriteAnswer::Refused { refusal, probes: _ } => refusals::refusal_number(refusal),
+    }
+}
+
+pub fn release_number(answer: ReleaseAnswer) -> u8
+    ensures { λ r. ⌜ r ≡ releaseNumber (releaseResult answer) ⌝ }
+{
+    match answer {
+        ReleaseAnswer::Freed(_) => 0,
+        ReleaseAnswer::Refused(r) => refusals::refusal_number(r),
+    }
+}
+
+// ---- the slice that a release freed
+
+pub fn put_freed(slice: &mut usize, answer: ReleaseAnswer)
+    ensures { λ _. ⌜ now (slice .exit) ≡ freedSlice (releaseResult answer) (now (slice .entry)) ⌝ }
+{
+    match answer {
+        ReleaseAnswer::Freed(freed) => {
+            *slice = freed;
+        }
+        ReleaseAnswer::Refused(_) => {}
     }
 }
 
