@@ -9,8 +9,8 @@
 //! keeps anything between two calls.
 //!
 //! [`format()`] makes a device whose volumes have the lengths that it is told, [`Session::open`] opens it
-//! with a key, and the session tells how long each volume is, reads, writes and closes. Reading the
-//! image from a stick and storing it there is the caller's work.
+//! with a key, and the session tells how long each volume is, reads, writes, releases slices and closes.
+//! Reading the image from a stick and storing it there is the caller's work.
 //!
 //! ```
 //! use hiwalgam::{Block, Change, Geometry, Refusal, Session, Tables, Tape};
@@ -56,8 +56,10 @@
 //!   and IV betray each other, and the tape of a formatting holds the keys of its volumes.
 //! - **Two sessions at once.** What is proved holds where, from an opening to its close, nothing but
 //!   these calls alters device, tables, tape position and session.
-//! - **Torn writes.** A claim is in the device's maps only after a close, and a call that is cut off
-//!   half way leaves a device that no statement covers.
+//! - **Erased bytes.** A release leaves the bytes of its slice on the device, and whoever has the
+//!   volume's data key can still decipher them.
+//! - **Torn writes.** A claim or a release is in the device's maps only after a close, and a call that is
+//!   cut off half way leaves a device that no statement covers.
 //! - **Wiped memory.** A close sets the keys of its session to zeros. Copies that were made by moving
 //!   the session, and what a call leaves on the stack, stay.
 //!

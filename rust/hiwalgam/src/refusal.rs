@@ -35,7 +35,8 @@ pub enum Refusal {
     SliceTwice = 10,
     /// The volume is above the opened one.
     VolumeAbove = 11,
-    /// The block is past the end of the volume: its address is N x S or more.
+    /// The block is past the end of the volume: its address is N x S or more. At a release the logical
+    /// slice is: its number is N or more.
     AddressAbove = 12,
     /// A buffer, text, IV, tag, associated data or struct is not as long as it has to be.
     WrongLength = 13,
@@ -54,11 +55,13 @@ pub enum Refusal {
     KeyCount = 23,
     /// A key opens the key cell of a lower volume.
     LowerCell = 24,
+    /// The logical slice to release has no slice.
+    SliceUnmapped = 25,
 }
 
 impl Refusal {
     /// All refusals, in the order of their numbers.
-    pub const ALL: [Refusal; 20] = [
+    pub const ALL: [Refusal; 21] = [
         Refusal::BadGeometry,
         Refusal::DeviceLength,
         Refusal::KeyLength,
@@ -79,6 +82,7 @@ impl Refusal {
         Refusal::NoFreeSlice,
         Refusal::KeyCount,
         Refusal::LowerCell,
+        Refusal::SliceUnmapped,
     ];
 
     /// The number that the C functions answer.
@@ -94,7 +98,9 @@ impl Refusal {
 
     fn reason(self) -> &'static str {
         match self {
-            Refusal::BadGeometry => "the geometry, a count of logical slices or the number of counts is not allowed",
+            Refusal::BadGeometry => {
+                "the geometry, a count of logical slices or the number of counts is not allowed"
+            }
             Refusal::DeviceLength => "the device is not as long as the geometry says",
             Refusal::KeyLength => "a key is not 32 bytes",
             Refusal::TableLength => "the map table or the owner table has a wrong length",
@@ -107,7 +113,7 @@ impl Refusal {
             }
             Refusal::SliceTwice => "a slice is mapped twice",
             Refusal::VolumeAbove => "the volume is above the opened one",
-            Refusal::AddressAbove => "the block is past the end of the volume",
+            Refusal::AddressAbove => "the block or the logical slice is past the end of the volume",
             Refusal::WrongLength => "a buffer or a struct has a wrong length",
             Refusal::MalformedLine => "the line is malformed",
             Refusal::TagDiffers => "the tag is wrong",
@@ -116,6 +122,7 @@ impl Refusal {
             Refusal::NoFreeSlice => "no slice from the start place on is free",
             Refusal::KeyCount => "there is no key, or more than 15",
             Refusal::LowerCell => "a key opens the cell of a lower volume",
+            Refusal::SliceUnmapped => "the logical slice is unmapped",
         }
     }
 }

@@ -14,11 +14,12 @@ use crate::{Block, Geometry, Refusal, Tables, Tape, WriteRefused, Written};
 ///
 /// The device, the tables and the tape are lent to each call. From the opening to the close nothing
 /// but these calls may alter them, and the tables are those of the opening, as is the permutation. A
-/// session that is dropped without a close loses the slices that it claimed.
+/// session that is dropped without a close loses the slices that it claimed. Those that it released are
+/// mapped again at the next opening, and hold what was claimed there meanwhile.
 ///
 /// A session has a start place: no slice at an earlier place of the permutation is free, and claims
-/// look from there on. So the probes of all its writes, those refused by 5 or 21 left out, add up to P
-/// at most.
+/// look from there on. So the probes of all its writes, those refused by 5 or 21 left out, add up to at
+/// most P times one more than its served releases.
 ///
 /// It also has the length of each open volume, as the volume was formatted: [`Session::blocks`].
 #[derive(PartialEq, Eq, Debug)]
@@ -62,8 +63,8 @@ impl Session {
         Ok(Session(session))
     }
 
-    /// Reads a block into `buffer`, which has B bytes. A block that was never written is zeros. The
-    /// volume ends before block [`blocks`](Session::blocks).
+    /// Reads a block into `buffer`, which has B bytes. A block that was never written, or not since its
+    /// logical slice was released, is zeros. The volume ends before block [`blocks`](Session::blocks).
     ///
     /// Refused by 20, 2, 4, 11, 12, 13, 9; the buffer stays then.
     pub fn read<M, O>(
@@ -130,7 +131,8 @@ impl Session {
     ///
     /// Refused by 20, 2, 4, 5 (length), 11, 12, 13, 9; a claim by 5 (a place that names no slice) or
     /// 22; both by 21. A 22 sets the start place to P, and nothing else changes then. With another
-    /// permutation than that of the opening a 22 can come while an earlier place is free.
+    /// permutation than that of the opening, here or at a release before, a 22 can come while an earlier
+    /// place is free.
     pub fn write<M, O>(
         &mut self,
         device: &mut [u8],
@@ -162,6 +164,72 @@ impl Session {
             )
         };
         Written::answered(number, written)
+    }
+
+    /// Releases a logical slice of an open volume, numbered from 0 to N - 1, and gives the slice of the
+    /// device that is free for claims again. The blocks of the logical slice then read as zeros, and the
+    /// next write to one of them is a claim. The start place becomes the slice's place in the
+    /// permutation where that is lower.
+    ///
+    /// No byte of the device changes: what the slice held stays there, under the volume's key, until a
+    /// claim takes the slice. A release is in the device's maps only after a close. It takes no tape.
+    ///
+    /// Refused by 20, 2, 4, 5 (the whole permutation is tested, as at an opening), 11, 12, 9, 25 (the
+    /// logical slice has no slice); nothing changes then.
+    ///
+    /// ```
+    /// use hiwalgam::{Block, Change, Geometry, Refusal, Session, Tables, Tape};
+    ///
+    /// # let random = vec![0x5a; 60_000];
+    /// let geometry = Geometry { block_bytes: 1024, slice_blocks: 4, slices: 2 };
+    /// let (key, permutation, text) = ([7; 32], [1, 0], [3; 1024]);
+    /// let (mut tape, mut device) = (Tape::new(&random), vec![0; geometry.device_length()]);
+    /// hiwalgam::format(&mut device, geometry, 1, &key, &[2], &mut tape)?;
+    /// let mut tables = Tables::new(geometry);
+    /// let mut session = Session::open(&device, geometry, &key, &mut tables, &permutation)?;
+    ///
+    /// // Block 5 is in logical slice 1.
+    /// let block = Block { volume: 0, address: 5 };
+    /// let written = session.write(&mut device, &mut tables, &permutation, &mut tape, block, &text)?;
+    /// assert_eq!((written.change, session.start_place()), (Change::Claimed(1), 1));
+    /// assert_eq!(session.release(&device, &mut tables, &permutation, 0, 1), Ok(1));
+    /// assert_eq!(session.start_place(), 0);
+    ///
+    /// let mut buffer = [0xff; 1024];
+    /// session.read(&device, &tables, block, &mut buffer)?;
+    /// assert_eq!(buffer, [0; 1024]);
+    /// let again = session.release(&device, &mut tables, &permutation, 0, 1);
+    /// assert_eq!(again, Err(Refusal::SliceUnmapped));
+    /// # Ok::<(), Refusal>(())
+    /// ```
+    pub fn release<M, O>(
+        &mut self,
+        device: &[u8],
+        tables: &mut Tables<M, O>,
+        permutation: &[u32],
+        volume: u64,
+        logical_slice: u64,
+    ) -> Result<u64, Refusal>
+    where
+        M: AsMut<[u32]>,
+        O: AsMut<[u8]>,
+    {
+        let (maps, owners) = (tables.maps.as_mut(), tables.owners.as_mut());
+        let mut slice = 0;
+        // SAFETY: each pointer goes with the length of what it was taken from.
+        #[rustfmt::skip]
+        let number = unsafe {
+            sys::hiwalgam_release(
+                device.as_ptr(), device.len(),
+                maps.as_mut_ptr(), maps.len(),
+                owners.as_mut_ptr(), owners.len(),
+                permutation.as_ptr(), permutation.len(),
+                &mut self.0, size_of::<sys::Session>(),
+                volume, logical_slice, &mut slice,
+            )
+        };
+        answered(number)?;
+        Ok(slice)
     }
 
     /// Closes the session: the maps of the open volumes go to the device, with 16 bytes of the tape
@@ -204,8 +272,8 @@ impl Session {
         self.0.volume
     }
 
-    /// The place of the permutation at which the next claim begins to look, 0 to P. Rewrites, reads,
-    /// finds and a close leave it.
+    /// The place of the permutation at which the next claim begins to look, 0 to P. A release can lower
+    /// it; rewrites, reads, finds and a close leave it.
     pub fn start_place(&self) -> u64 {
         self.0.start_place
     }

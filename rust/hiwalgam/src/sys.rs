@@ -10,9 +10,10 @@
 //!
 //! - Each pointer is followed by a length: of a list the number of its elements, of a struct its
 //!   size. The pointer is valid for that length, and what is not const may be written.
-//! - Lists of `u32` and `u64`, and the position of the tape, are aligned. Bytes and structs may stand
-//!   anywhere.
-//! - Null may be passed with length 0. The position of the tape is never null.
+//! - Lists of `u32` and `u64`, the position of the tape and the slice of a release are aligned. Bytes
+//!   and structs may stand anywhere.
+//! - Null may be passed with length 0. The position of the tape and the slice of a release, which have
+//!   no length, are never null.
 //! - The buffers of one call do not overlap, but for those that are const.
 
 use std::fmt;
@@ -196,6 +197,20 @@ extern "C" {
         volume: u64, address: u64,
         text: *const u8, text_length: usize,
         written: *mut Written, written_size: usize,
+    ) -> u8;
+
+    /// Releases a logical slice of an open volume: its entry becomes [`UNMAPPED`], its slice free and
+    /// `*slice` that slice. The session's start place becomes the slice's place in the permutation where
+    /// that is lower. The device is lent for its length alone.
+    ///
+    /// Refused by 13 (session of another size), 20, 2, 4, 5, 11, 12, 9, 25; `*slice` stays then.
+    pub fn hiwalgam_release(
+        device: *const u8, device_length: usize,
+        maps: *mut u32, maps_length: usize,
+        owners: *mut u8, owners_length: usize,
+        permutation: *const u32, permutation_length: usize,
+        session: *mut Session, session_size: usize,
+        volume: u64, logical_slice: u64, slice: *mut u64,
     ) -> u8;
 
     /// Closes a session: the maps of the open volumes go to the device, and the tables and the keys

@@ -60,6 +60,11 @@ impl Geometry {
         count * self.s
     }
 
+    /// The index of a logical slice's entry in the map table.
+    pub fn entry(self, volume: usize, logical: usize) -> usize {
+        volume * self.p + logical
+    }
+
     /// The bytes of key cell `i`.
     pub fn cell(self, i: usize) -> Range<usize> {
         let start = SALT + CELL * i;

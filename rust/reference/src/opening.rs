@@ -123,7 +123,7 @@ fn read_map(
             return Err(Refusal::SliceTwice);
         }
         *owner = volume as u8 + 1;
-        tables.maps[volume * geometry.p + logical] = entry;
+        tables.maps[geometry.entry(volume, logical)] = entry;
     }
     Ok(())
 }

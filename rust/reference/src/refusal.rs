@@ -27,7 +27,7 @@ pub enum Refusal {
     SliceTwice = 10,
     /// The volume is above k.
     VolumeAbove = 11,
-    /// The address is N x S or more.
+    /// The address is N x S or more, or the logical slice to release N or more.
     AddressAbove = 12,
     /// Another length, or the position, is outside its limits.
     WrongLength = 13,
@@ -46,6 +46,8 @@ pub enum Refusal {
     KeyCount = 23,
     /// A key opens the cell of a lower volume.
     LowerCell = 24,
+    /// The logical slice to release is unmapped.
+    SliceUnmapped = 25,
 }
 
 impl Refusal {

@@ -1,9 +1,9 @@
-//! Read, find, write and close.
+//! Read, find, write, release and close.
 
 use crate::aes::KEY;
 use crate::ctr;
 use crate::geometry::{Geometry, IV};
-use crate::permutation::search;
+use crate::permutation::{names_each_slice_once, search};
 use crate::refusal::Refusal;
 use crate::session::{tables_fit, Refused, Session, Stored, Tables, Tape, Target, KEYS, UNMAPPED};
 
@@ -24,21 +24,26 @@ fn check_lent(
     Ok(geometry)
 }
 
+/// N, the logical slices of a volume, where it is open.
+fn open_count(session: &Session, volume: usize) -> Result<usize, Refusal> {
+    if volume > session.k {
+        return Err(Refusal::VolumeAbove);
+    }
+    Ok(session.counts[volume])
+}
+
 /// The index of the target's map entry, and the offset of its block in the slice.
 fn locate(
     geometry: Geometry,
     session: &Session,
     target: Target,
 ) -> Result<(usize, usize), Refusal> {
-    if target.volume > session.k {
-        return Err(Refusal::VolumeAbove);
-    }
-    if target.address >= geometry.blocks(session.counts[target.volume]) {
+    if target.address >= geometry.blocks(open_count(session, target.volume)?) {
         return Err(Refusal::AddressAbove);
     }
     let logical = target.address / geometry.s;
     let offset = target.address % geometry.s;
-    Ok((target.volume * geometry.p + logical, offset))
+    Ok((geometry.entry(target.volume, logical), offset))
 }
 
 /// The physical slice of a map entry, or None where it is unmapped.
@@ -174,6 +179,34 @@ fn find_free(
         Some(&slice) if slice as usize >= p => refused(Refusal::BadPermutation, place + 1 - start),
         Some(&slice) => Ok((slice as usize, place + 1 - start)),
     }
+}
+
+/// Gives back the slice of a logical slice, which is unmapped and reads as zeros afterwards. The start
+/// place becomes the slice's place, where that is lower. No byte of the device is looked at.
+pub fn release(
+    device: &[u8],
+    tables: &mut Tables,
+    permutation: &[u32],
+    session: &mut Session,
+    volume: usize,
+    logical: usize,
+) -> Result<usize, Refusal> {
+    let geometry = check_lent(device, tables.maps, tables.owners, session)?;
+    if !names_each_slice_once(permutation, geometry.p) {
+        return Err(Refusal::BadPermutation);
+    }
+    if logical >= open_count(session, volume)? {
+        return Err(Refusal::AddressAbove);
+    }
+    let entry = &mut tables.maps[geometry.entry(volume, logical)];
+    let slice = mapped(geometry, *entry)?.ok_or(Refusal::SliceUnmapped)?;
+
+    *entry = UNMAPPED;
+    tables.owners[slice] = 0;
+    let mut places = permutation.iter();
+    let place = places.position(|&named| named as usize == slice).unwrap();
+    session.start_place = session.start_place.min(place);
+    Ok(slice)
 }
 
 /// Writes the maps of volumes 0 to k and closes the session.

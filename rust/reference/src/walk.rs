@@ -134,7 +134,7 @@ impl Walk {
             return Err(Refusal::AddressAbove);
         }
 
-        let entry = volume * geometry.p + address / geometry.s;
+        let entry = geometry.entry(volume, address / geometry.s);
         let mut slice = self.maps[entry];
         let mut probes = 0;
         if slice == UNMAPPED {

@@ -37,6 +37,12 @@ const FILL_ROUNDS: usize = 21;
 /// About how long a turn lasts, in seconds.
 const TURN_SECONDS: f64 = 0.001;
 
+/// Rows whose ratios to one another are printed.
+const RELEASE: &str = "release, P 256";
+const LARGE_RELEASE: &str = "release, P 4096";
+const OPEN: &str = "open, P 256";
+const LARGE_OPEN: &str = "open, P 4096";
+
 /// What is lent to the calls on a stick.
 #[derive(Clone)]
 struct Bench {
@@ -52,6 +58,9 @@ struct Bench {
     /// A block whose logical slice is mapped, unless the stick is blank, and one whose is not.
     mapped: Target,
     unmapped: Target,
+    /// The volume and the logical slice that hold the last slice of the permutation that is held; zeros
+    /// where the stick is blank.
+    last: (usize, usize),
 }
 
 impl Bench {
@@ -83,17 +92,29 @@ impl Bench {
             slice_blocks: layout.s as u64,
             slices: layout.p as u64,
         };
+        let permutation = random.permutation(layout.p);
+        let mut holders = vec![None; layout.p];
+        for (volume, held) in stick.volumes.iter().enumerate() {
+            for (logical, &entry) in held.map.iter().enumerate() {
+                if let Some(holder) = holders.get_mut(entry as usize) {
+                    *holder = Some((volume, logical));
+                }
+            }
+        }
+        let mut backwards = permutation.iter().rev();
+        let last = backwards.find_map(|&slice| holders[slice as usize]);
         Bench {
             layout,
             geometry,
             device: stick.device,
             key: stick.volumes[VOLUMES - 1].key,
-            permutation: random.permutation(layout.p),
+            permutation,
             tables: Tables::new(geometry),
             tape: random.bytes(layout.b).to_vec(),
             buf: vec![0; layout.b],
             mapped,
             unmapped,
+            last: last.unwrap_or_default(),
         }
     }
 }
@@ -111,6 +132,9 @@ trait Session: Sized {
 
     /// Writes a block with the first bytes of the tape, and gives the slice and the probes.
     fn write(&mut self, bench: &mut Bench, target: Target) -> (usize, usize);
+
+    /// Releases a logical slice of a volume, and gives the slice freed.
+    fn release(&mut self, bench: &mut Bench, place: (usize, usize)) -> usize;
 
     /// Gives the start place.
     fn start_place(&self) -> usize;
@@ -139,6 +163,17 @@ fn claim<S: Session>(session: &mut S, bench: &mut Bench) {
     bench.tables.maps[entry] = UNMAPPED;
     bench.tables.owners[slice] = 0;
     session.start_at(start);
+}
+
+/// A release of the last slice that is held, which is then taken back in the tables. Its place is found
+/// last, and is behind the start place, which stays.
+fn release<S: Session>(session: &mut S, bench: &mut Bench) {
+    let start = session.start_place();
+    let (volume, logical) = bench.last;
+    let slice = session.release(bench, bench.last);
+    assert_eq!(session.start_place(), start);
+    bench.tables.maps[volume * bench.layout.p + logical] = slice as u32;
+    bench.tables.owners[slice] = volume as u8 + 1;
 }
 
 /// A close, after which the tables are put back.
@@ -187,6 +222,13 @@ impl Session for Library {
             .write(device, tables, order, tape, block(target), text);
         let written = written.unwrap();
         (written.change.slice() as usize, written.probes as usize)
+    }
+
+    fn release(&mut self, bench: &mut Bench, (volume, logical): (usize, usize)) -> usize {
+        let (device, tables, order) = (&bench.device, &mut bench.tables, &bench.permutation);
+        let (volume, logical) = (volume as u64, logical as u64);
+        let slice = self.0.release(device, tables, order, volume, logical);
+        slice.unwrap() as usize
     }
 
     fn start_place(&self) -> usize {
@@ -263,6 +305,12 @@ impl Session for Reference {
             Ok(Stored::Rewritten { slice }) => (slice, 0),
             Err(refused) => panic!("{:?}", refused.refusal),
         }
+    }
+
+    fn release(&mut self, bench: &mut Bench, (volume, logical): (usize, usize)) -> usize {
+        let (device, order) = (&bench.device, &bench.permutation);
+        let tables = &mut reference_tables(&mut bench.tables);
+        requests::release(device, tables, order, &mut self.0, volume, logical).unwrap()
     }
 
     fn start_place(&self) -> usize {
@@ -452,6 +500,12 @@ fn median(mut values: Vec<f64>) -> f64 {
     values[values.len() / 2]
 }
 
+/// How many times as long as the row `other` the row `name` took.
+fn ratio_of(rows: &[Measured], name: &str, other: &str) -> f64 {
+    let row = |name| rows.iter().find(|row| row.name == name).unwrap();
+    row(name).ratio(row(other))
+}
+
 /// Every call of one implementation, in the order of the table.
 fn all_calls<S: Session + 'static>(small: &Bench, large: &Bench) -> Vec<Measured> {
     vec![
@@ -459,9 +513,11 @@ fn all_calls<S: Session + 'static>(small: &Bench, large: &Bench) -> Vec<Measured
         Measured::on(small, "rewrite", rewrite::<S>),
         Measured::on(small, "claim, S 4", claim::<S>),
         Measured::on(small, "find", S::find),
+        Measured::on(small, RELEASE, release::<S>),
+        Measured::on(large, LARGE_RELEASE, release::<S>),
         Measured::on(small, "close, P 256", close::<S>),
-        Measured::on(small, "open, P 256", open::<S>),
-        Measured::on(large, "open, P 4096", open::<S>),
+        Measured::on(small, OPEN, open::<S>),
+        Measured::on(large, LARGE_OPEN, open::<S>),
     ]
 }
 
@@ -527,27 +583,34 @@ fn main() {
 
     // In rounds of its own, since a formatting leaves nothing else in the caches.
     let blank = Blank::new(&mut random);
-    library.push(blank.measured("format, 64 MiB", Blank::format));
-    reference.push(blank.measured("format, 64 MiB", Blank::format_by_reference));
+    let mut format = blank.measured("format, 64 MiB", Blank::format);
+    let mut format_by_reference = blank.measured("format, 64 MiB", Blank::format_by_reference);
     let mut copy = blank.measured("copy", Blank::copy);
     for _ in 0..ROUNDS {
-        for measured in [&mut library[7], &mut reference[7], &mut copy] {
+        for measured in [&mut format, &mut format_by_reference, &mut copy] {
             measured.turn();
         }
     }
+    let format_to_copy = format.ratio(&copy);
+    library.push(format);
+    reference.push(format_by_reference);
 
     let stick = Bench::blank(&mut random);
     let looks = looks_to_fill(&stick);
-    library.push(Measured::on(&stick, "fill, P 4096", fill::<Library>));
-    reference.push(Measured::on(&stick, "fill, P 4096", fill::<Reference>));
+    let mut filling = Measured::on(&stick, "fill, P 4096", fill::<Library>);
+    let mut filling_by_reference = Measured::on(&stick, "fill, P 4096", fill::<Reference>);
     let mut fill_from_0 = Measured::on(&stick, "fill from 0", fill_from_0::<Library>);
     let mut store_alone = Measured::on(&stick, "store alone", store_alone);
     for _ in 0..FILL_ROUNDS {
-        library[8].turn();
-        reference[8].turn();
+        filling.turn();
+        filling_by_reference.turn();
         fill_from_0.turn();
         store_alone.turn();
     }
+    let fill_to_store = filling.ratio(&store_alone);
+    let from_0_to_fill = fill_from_0.ratio(&filling);
+    library.push(filling);
+    reference.push(filling_by_reference);
 
     println!("B {B}, 15 volumes open, half of the slices mapped; medians of {ROUNDS} rounds.");
     println!(
@@ -557,12 +620,13 @@ fn main() {
     println!(
         "A filling is of {FILL_P} claims on a blank stick, B {FILL_B}, S 1; medians of {FILL_ROUNDS} rounds."
     );
+    println!("A release is of the last slice of the permutation that is held.");
     println!("Times of one call in microseconds; ratios are of times in the same round.\n");
     println!("call              library    reference  library/reference");
     for (library, reference) in library.iter().zip(&reference) {
         let (name, ratio) = (library.name, library.ratio(reference));
         let (library, reference) = (library.microseconds(), reference.microseconds());
-        println!("{name:<14} {library:>10.3} {reference:>12.3} {ratio:>18.3}");
+        println!("{name:<15} {library:>9.3} {reference:>12.3} {ratio:>18.3}");
     }
 
     println!(
@@ -581,23 +645,25 @@ fn main() {
 
     println!("\nA filling looks at {looks} places; each claim from place 0, at {LOOKS_FROM_0}.");
     for (name, ratio) in [
-        ("format / copy of as many bytes", library[7].ratio(&copy)),
+        ("format / copy of as many bytes", format_to_copy),
         // The same slices in the same order: IV blocks copied, texts in counter mode.
-        (
-            "fill / slices stored by counter mode",
-            library[8].ratio(&store_alone),
-        ),
-        (
-            "fill, each claim from place 0 / fill",
-            fill_from_0.ratio(&library[8]),
-        ),
+        ("fill / slices stored by counter mode", fill_to_store),
+        ("fill, each claim from place 0 / fill", from_0_to_fill),
         (
             "open P 4096 / P 256, library",
-            library[6].ratio(&library[5]),
+            ratio_of(&library, LARGE_OPEN, OPEN),
         ),
         (
             "open P 4096 / P 256, reference",
-            reference[6].ratio(&reference[5]),
+            ratio_of(&reference, LARGE_OPEN, OPEN),
+        ),
+        (
+            "release P 4096 / P 256, library",
+            ratio_of(&library, LARGE_RELEASE, RELEASE),
+        ),
+        (
+            "release P 4096 / P 256, reference",
+            ratio_of(&reference, LARGE_RELEASE, RELEASE),
         ),
     ] {
         println!("{name:<36} {ratio:.3}");

@@ -137,7 +137,7 @@ pub trait Ciphers: Debug {
     ) -> Answer;
 }
 
-/// The six calls of one implementation of the engine.
+/// The seven calls of one implementation of the engine.
 pub trait Engine: Debug {
     /// `numbers` are B, S and P. For each of the volumes `keys` is to hold a key, end to end, and
     /// `counts` its N.
@@ -192,6 +192,17 @@ pub trait Engine: Debug {
         target: Target,
         text: &[u8],
     ) -> Written;
+
+    /// Gives the slice freed. `logical` is a logical slice of the volume.
+    fn release(
+        &self,
+        device: &[u8],
+        tables: &mut Tables,
+        permutation: &[u32],
+        session: &mut Session,
+        volume: usize,
+        logical: usize,
+    ) -> Result<usize, Refusal>;
 
     fn close(
         &self,

@@ -233,6 +233,14 @@ impl State {
                     (answer, ..) => format!("{answer} with {claimed}, {slice}, {probes}"),
                 }
             }
+            ["release", volume, logical] => {
+                let (volume, logical) = (number(volume), number(logical));
+                let tables = &mut tables;
+                match engine.release(device, tables, permutation, session, volume, logical) {
+                    Ok(slice) => format!("0 {slice}"),
+                    Err(refusal) => refusal.number().to_string(),
+                }
+            }
             ["close"] => shown(engine.close(device, &mut tables, &mut tape, session)).to_string(),
             ["format", volumes, keys, handed] => {
                 let (volumes, numbers) = (number(volumes), self.geometry);

@@ -197,20 +197,20 @@ fn declared_functions() -> Functions {
 #[test]
 fn functions_are_the_headers() {
     let (functions, _) = header_functions();
-    assert_eq!(functions.len(), 10);
+    assert_eq!(functions.len(), 11);
     assert_eq!(declared_functions(), functions);
 }
 
-/// The attribute that a parameter asks for, by its number: a list goes with the length behind it.
-/// Write and close also read what they are lent to be written.
+/// The attribute that a parameter asks for, by its number: a list goes with the length behind it, and
+/// one number stands alone. Write, release and close also read what they are lent to be written.
 fn attribute(function: &str, number: usize, parameter: &str) -> Option<String> {
     let (_, of) = parameter.split_once(": ")?;
-    let reads = ["hiwalgam_write", "hiwalgam_close"].contains(&function);
+    let reads = ["hiwalgam_write", "hiwalgam_release", "hiwalgam_close"].contains(&function);
     let word = match of {
         "*const u8" | "*const u32" | "*const u64" => "IN",
         "*mut u8" | "*mut u32" if reads => "INOUT",
         "*mut u8" | "*mut u32" => "OUT",
-        "*mut usize" => return Some(format!("HIWALGAM_NOT_NULL({number})")),
+        "*mut usize" | "*mut u64" => return Some(format!("HIWALGAM_NOT_NULL({number})")),
         _ => return None,
     };
     Some(format!("HIWALGAM_{word}({number}, {})", number + 1))

@@ -31,7 +31,7 @@ fn numbers_of_refusals() {
     for number in 0..=255 {
         match Refusal::from_number(number) {
             Some(refusal) => assert_eq!(refusal.number(), number),
-            None => assert!(![1..=15, 20..=24].iter().any(|some| some.contains(&number))),
+            None => assert!(![1..=15, 20..=25].iter().any(|some| some.contains(&number))),
         }
     }
     for refusal in Refusal::ALL {

@@ -8,7 +8,7 @@ use std::ptr;
 use hiwalgam::sys::{self, SESSION_BYTES, WRITTEN_BYTES};
 use hiwalgam::Refusal;
 
-use crate::inputs::Guarded;
+use crate::inputs::{Element, Guarded};
 use crate::interface::{
     Answer, Ciphers, Engine, Session, Tables, Tape, Target, Written, KEYS, SERVED, VOLUMES,
 };
@@ -270,6 +270,34 @@ pub fn write(
     answer(number)
 }
 
+/// `hiwalgam_release`.
+#[rustfmt::skip]
+pub fn release(
+    device: &[u8],
+    tables: &mut Tables,
+    permutation: &[u32],
+    session: &mut Record,
+    volume: usize,
+    logical: usize,
+    slice: &mut usize,
+) -> Answer {
+    let mut freed = Guarded::new(&[*slice]);
+    // SAFETY: each pointer goes with a length for which it is valid.
+    let number = unsafe {
+        sys::hiwalgam_release(
+            start(device), device.len(),
+            start_mut(tables.maps), tables.maps.len(),
+            start_mut(tables.owners), tables.owners.len(),
+            start(permutation), permutation.len(),
+            session.start_mut(), session.size,
+            volume as u64, logical as u64, start_mut(&mut freed).cast(),
+        )
+    };
+    assert!(freed.is_intact(), "the guards of the slice");
+    *slice = freed[0];
+    answer(number)
+}
+
 /// `hiwalgam_close`.
 #[rustfmt::skip]
 pub fn close(
@@ -384,6 +412,35 @@ impl Engine for CFunctions {
         );
         *session = record.to_session();
         written.to_written(answer)
+    }
+
+    fn release(
+        &self,
+        device: &[u8],
+        tables: &mut Tables,
+        permutation: &[u32],
+        session: &mut Session,
+        volume: usize,
+        logical: usize,
+    ) -> Result<usize, Refusal> {
+        // No slice has so high a number.
+        let blank = usize::pattern(0);
+        let (mut record, mut slice) = (Record::session(session), blank);
+        let answer = release(
+            device,
+            tables,
+            permutation,
+            &mut record,
+            volume,
+            logical,
+            &mut slice,
+        );
+        *session = record.to_session();
+        assert!(
+            answer.is_ok() || slice == blank,
+            "the slice of a refused release"
+        );
+        answer.map(|()| slice)
     }
 
     fn close(

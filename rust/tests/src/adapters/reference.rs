@@ -219,6 +219,21 @@ impl Engine for Reference {
         }
     }
 
+    fn release(
+        &self,
+        device: &[u8],
+        tables: &mut Tables,
+        permutation: &[u32],
+        session: &mut Session,
+        volume: usize,
+        logical: usize,
+    ) -> Result<usize, Refusal> {
+        let (mut lent, tables) = (session_of(session), &mut tables_of(tables));
+        let freed = requests::release(device, tables, permutation, &mut lent, volume, logical);
+        hand_back(&lent, session);
+        freed.map_err(same)
+    }
+
     fn close(
         &self,
         device: &mut [u8],

@@ -1,6 +1,6 @@
 //! The crate `hiwalgam`.
 
-use hiwalgam::{sys, Block, Change, Geometry, WriteRefused};
+use hiwalgam::{sys, Block, Change, Geometry, Refusal, WriteRefused};
 
 use crate::interface::{Answer, Ciphers, Engine, Session, Tables, Tape, Target, Written, SERVED};
 
@@ -207,6 +207,21 @@ impl Engine for Wrapper {
                 ..Written::of(Err(refusal))
             },
         }
+    }
+
+    fn release(
+        &self,
+        device: &[u8],
+        tables: &mut Tables,
+        permutation: &[u32],
+        session: &mut Session,
+        volume: usize,
+        logical: usize,
+    ) -> Result<usize, Refusal> {
+        let (mut lent, tables) = (session_of(session), &mut tables_of(tables));
+        let freed = lent.release(device, tables, permutation, volume as u64, logical as u64);
+        hand_back(&lent, session);
+        freed.map(|slice| slice as usize)
     }
 
     fn close(

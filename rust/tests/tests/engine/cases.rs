@@ -5,7 +5,7 @@ use std::thread;
 use hiwalgam::Refusal::{BadGeometry, DeviceLength, NotOpen, TapeShort};
 use hiwalgam_tests::adapters::CFunctions;
 use hiwalgam_tests::inputs::{Guarded, Random};
-use hiwalgam_tests::interface::{Engine, Tables, Tape, SERVED, VOLUMES};
+use hiwalgam_tests::interface::{Engine, Tables, Tape, SERVED, UNMAPPED, VOLUMES};
 use hiwalgam_tests::stick::{format_need, Stick};
 
 use crate::requests::EDGES;
@@ -68,6 +68,8 @@ fn any_geometry() {
     let stick = Stick::random_with(&mut random, geometry(1024, 4, 4), &[1, 1], 2);
     let mut base = State::new(&mut random, &stick, 1);
     open_and_check(&mut base, &stick, 1);
+    let mut maps = stick.volumes.iter().map(|volume| volume.map[0]);
+    base.target.volume = maps.position(|entry| entry != UNMAPPED).unwrap();
     base.session.start_place = 0;
     base.new_tape(&mut random, format_need(stick.geometry, 2));
     let triples = EDGES.map(|b| EDGES.map(|s| EDGES.map(|p| [b, s, p])));
@@ -103,7 +105,7 @@ fn length_in_64_bits() {
     (state.session.k, state.session.open) = (0, 1);
     state.session.start_place = 4096;
     state.session.counts[0] = 4096;
-    for call in [Format, Read, Write, Close, Open] {
+    for call in [Format, Read, Write, Release, Close, Open] {
         assert_eq!(run(call, &mut state), Err(DeviceLength));
     }
 }
@@ -120,7 +122,7 @@ fn stack_of_a_call() {
     let thread = thread::Builder::new().name("calls on 64 KiB of stack".into());
     thread::scope(|scope| {
         let calls = || {
-            for call in [Format, Open, Read, Write, Write, Read, Find, Close] {
+            for call in [Format, Open, Read, Write, Write, Read, Find, Release, Close] {
                 assert_eq!(state.call(call, &CFunctions).answer, SERVED, "{call:?}");
             }
         };

@@ -397,15 +397,16 @@ fn entries_in_the_lent_table() {
     assert_eq!(answers.len(), 4, "{answers:?}");
 }
 
-/// A read, a find and a write of a logical slice at or past the end of an open volume.
+/// A read, a find, a write and a release of a logical slice at or past the end of an open volume.
 fn check_past_the_end(state: &State, volume: usize, logical: usize) {
     let Session { s, k, counts, .. } = state.session;
     if volume > k || logical < counts[volume] {
         return;
     }
-    for call in [Read, Write] {
+    for call in [Read, Write, Release] {
         let mut state = state.clone();
         state.target = at(volume, logical * s);
+        state.logical = logical;
         let (answer, _) = run_places(call, &mut state);
         assert_eq!(answer, Written::of(Err(AddressAbove)));
         assert_eq!(run(Find, &mut state), SERVED);
@@ -415,10 +416,10 @@ fn check_past_the_end(state: &State, volume: usize, logical: usize) {
 
 // ---- sessions
 
-/// Makes every call on a mapped block, of the lowest and the highest open volume and one between.
+/// Makes every call on a mapped slice, of the lowest and the highest open volume and one between.
 fn check_calls(base: &State, expected: Answer, what: &str) {
     let volumes = [0, base.session.k / 2, base.session.k];
-    for call in [Read, Find, Write, Close] {
+    for call in [Read, Find, Write, Release, Close] {
         for volume in volumes {
             let mut state = base.clone();
             state.target = at(volume, 0);

@@ -77,6 +77,20 @@ impl Faults {
         });
     }
 
+    /// 5 for the permutation as a whole: another length, a slice twice, or a number that is no slice.
+    fn whole_permutation(&mut self, base: &State, p: usize) {
+        self.permutation(p);
+        let first = base.permutation[0];
+        let places = [1, p - 1];
+        self.add(BadPermutation, "duplicate", &places, move |state, place| {
+            set(&mut state.permutation, place, first);
+        });
+        let places = [0, p - 1];
+        self.add(BadPermutation, "no slice", &places, move |state, place| {
+            set(&mut state.permutation, place, p as u32);
+        });
+    }
+
     /// 20, 2 and 4, with which every request begins.
     fn lent(&mut self, base: &State) {
         let [b, s, p] = wrong_numbers(base.session.b);
@@ -105,18 +119,38 @@ impl Faults {
         self.tables(p);
     }
 
-    /// 11 and 12.
-    fn target(&mut self, base: &State) {
+    /// 11.
+    fn volume(&mut self, base: &State) {
         let volumes = [base.session.k + 1, 15, 256, 1 << 32, MAX];
         self.add(VolumeAbove, "volume", &volumes, |state, volume| {
             state.target.volume = volume;
         });
+    }
+
+    /// 11 and 12 for a block.
+    fn target(&mut self, base: &State) {
+        self.volume(base);
         let Session { s, p, counts, .. } = base.session;
         let end = counts[base.target.volume] * s;
         // Also the last address of a volume of P logical slices, where this one is shorter.
         let addresses = [end, end.max(p * s - 1), p * s, 1 << 32, MAX];
         self.add(AddressAbove, "address", &addresses, |state, address| {
             state.target.address = address;
+        });
+    }
+
+    /// 11 and 12 for a logical slice.
+    fn logical_slice(&mut self, base: &State) {
+        self.volume(base);
+        let Session { s, p, counts, .. } = base.session;
+        let (volume, count) = (base.target.volume, counts[base.target.volume]);
+        // The fifth is 0 in 32 bits, S times the sixth is below S in 64 bits, where S is not 1, and the
+        // seventh of this volume is entry 0 in 64 bits.
+        let block = MAX / s.max(2) + 1;
+        let row = (volume * p).wrapping_neg();
+        let numbers = [count, count.max(p - 1), p, 15 * p, 1 << 32, block, row, MAX];
+        self.add(AddressAbove, "logical slice", &numbers, |state, logical| {
+            state.logical = logical;
         });
     }
 
@@ -234,16 +268,7 @@ impl Faults {
             state.key = state.key.resized(len);
         });
         self.tables(p);
-        self.permutation(p);
-        let first = base.permutation[0];
-        let places = [1, p - 1];
-        self.add(BadPermutation, "duplicate", &places, move |state, place| {
-            set(&mut state.permutation, place, first);
-        });
-        let places = [0, p - 1];
-        self.add(BadPermutation, "no slice", &places, move |state, place| {
-            set(&mut state.permutation, place, p as u32);
-        });
+        self.whole_permutation(base, p);
     }
 
     /// 6: another key, or a cell that is damaged.
@@ -387,6 +412,19 @@ impl Faults {
         faults
     }
 
+    fn of_release(base: &State) -> Self {
+        let (p, index) = (base.session.p, base.released_entry());
+        let mut faults = Faults::default();
+        faults.lent(base);
+        faults.whole_permutation(base, p);
+        faults.logical_slice(base);
+        faults.entry(base, index);
+        faults.add(SliceUnmapped, "unmapped", &[index], |state, index| {
+            set(&mut state.maps, index, UNMAPPED);
+        });
+        faults
+    }
+
     fn of_close(base: &State, layout: Geometry) -> Self {
         let p = layout.p;
         let mut faults = Faults::default();
@@ -498,6 +536,16 @@ pub fn with_faults(call: Call, mut test: impl FnMut(&mut Random, &State, &Faults
         if call == Close {
             let faults = Faults::of_close(&base, stick.geometry);
             return test(random, &base, &faults);
+        }
+        if call == Release {
+            // The slice stands at place 1: before the start place, at it and behind it.
+            base.target.volume = 1;
+            for start in [2, 1, 0] {
+                base.session.start_place = start;
+                let faults = Faults::of_release(&base);
+                test(random, &base, &faults);
+            }
+            return;
         }
         // A mapped block and an unmapped one; a claim also from the places before.
         for (address, start) in [(s - 1, 2), (s, 2), (s, 1), (s, 0)] {

@@ -11,6 +11,7 @@ mod formatting;
 mod opening;
 mod records;
 mod refusals;
+mod releases;
 mod requests;
 mod scenarios;
 mod start_places;

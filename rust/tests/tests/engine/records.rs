@@ -3,7 +3,7 @@
 use hiwalgam::sys::{SESSION_BYTES, WRITTEN_BYTES};
 use hiwalgam::Refusal::{NoFreeSlice, NotOpen, WrongLength};
 use hiwalgam_tests::adapters::c_functions::{self, Record, COUNTS_START, KEYS_START};
-use hiwalgam_tests::inputs::{Guarded, Random};
+use hiwalgam_tests::inputs::{Element, Guarded, Random};
 use hiwalgam_tests::interface::{Answer, Tables, Tape, KEYS, SERVED, VOLUMES};
 
 use crate::faults::with_faults;
@@ -11,12 +11,16 @@ use crate::requests::{spoil, CLOSED};
 use crate::state::Call::{self, *};
 use crate::state::{any_session, State, CALLS};
 
-/// The structs of a call. A call uses only those that it has.
+/// Where the start place of a session begins in its bytes.
+const START_PLACE: usize = 40;
+
+/// The structs of a call, and the number that a release sets. A call uses only those that it has.
 #[derive(Clone, PartialEq)]
 struct Records {
     geometry: Record,
     session: Record,
     written: Record,
+    slice: usize,
 }
 
 impl Records {
@@ -25,6 +29,7 @@ impl Records {
             geometry: Record::geometry(state.numbers),
             session: Record::session(&state.session),
             written: Record::blank(WRITTEN_BYTES),
+            slice: usize::pattern(0),
         }
     }
 
@@ -56,6 +61,10 @@ impl Records {
                 let (text, written) = (&state.text, &mut self.written);
                 c_functions::write(device, tables, order, tape, session, target, text, written)
             }
+            Release => {
+                let (volume, logical, slice) = (target.volume, state.logical, &mut self.slice);
+                c_functions::release(device, tables, order, session, volume, logical, slice)
+            }
             Close => c_functions::close(device, tables, tape, session),
         };
         state.position = tape.position;
@@ -75,7 +84,7 @@ fn fields(call: Call) -> Vec<Field> {
         Format => vec![geometry],
         Open => vec![session, geometry],
         Write => vec![session, |records| &mut records.written],
-        Read | Find | Close => vec![session],
+        Read | Find | Release | Close => vec![session],
     }
 }
 
@@ -171,15 +180,18 @@ fn wrong_sizes_before_all_refusals() {
 /// Makes a call and tests what it leaves of the session. `counts` are those of the stick's volumes.
 fn check_session(call: Call, state: &mut State, counts: &[usize]) -> Answer {
     let mut records = Records::of(state);
-    let before = records.session.clone();
+    let (before, blank) = (records.session.clone(), records.slice);
     let answer = records.call(call, state);
     let left = match (call, answer) {
         (Open, Err(_)) => Record::new(&[0; SESSION_BYTES]),
         (Open, Ok(())) => opened_at_1(state, &records.session, counts),
         (Write, Ok(()) | Err(NoFreeSlice)) => moved(&before, &records.written),
+        (Release, Ok(())) => lowered(&before, state.place_of(records.slice)),
         (Close, Ok(())) => closed(&before),
-        (Format | Read | Find | Write | Close, _) => before,
+        (Format | Read | Find | Write | Release | Close, _) => before,
     };
+    let set = call == Release && answer == SERVED;
+    assert!(set || records.slice == blank, "slice of {call:?}");
     assert!(
         records.session == left,
         "session after {call:?}, {answer:?}"
@@ -200,18 +212,37 @@ fn opened_at_1(state: &State, session: &Record, counts: &[usize]) -> Record {
     Record::new(&[numbers.as_flattened(), &keys, held.as_flattened()].concat())
 }
 
+fn number(bytes: &[u8]) -> u64 {
+    u64::from_le_bytes(bytes.try_into().unwrap())
+}
+
+fn start_place(session: &Record) -> u64 {
+    number(&session.bytes()[START_PLACE..KEYS_START])
+}
+
+/// A session with another start place.
+fn with_start_place(session: &Record, place: u64) -> Record {
+    let bytes = session.bytes();
+    let (first, rest) = (&bytes[..START_PLACE], &bytes[KEYS_START..]);
+    Record::new(&[first, &place.to_le_bytes(), rest].concat())
+}
+
 /// A session with the start place moved by as many places as a write looked at.
 fn moved(before: &Record, written: &Record) -> Record {
-    let number = |bytes: &[u8]| u64::from_le_bytes(bytes.try_into().unwrap());
-    let place = number(&before.bytes()[40..48]) + number(&written.bytes()[16..24]);
-    let (first, rest) = (&before.bytes()[..40], &before.bytes()[KEYS_START..]);
-    Record::new(&[first, &place.to_le_bytes(), rest].concat())
+    let probes = number(&written.bytes()[16..24]);
+    with_start_place(before, start_place(before) + probes)
+}
+
+/// A session whose start place is at most the place of a slice that was freed.
+fn lowered(before: &Record, place: usize) -> Record {
+    with_start_place(before, start_place(before).min(place as u64))
 }
 
 /// A session after its close: geometry, volume, start place and counts stay.
 fn closed(before: &Record) -> Record {
-    let (first, place) = (&before.bytes()[..32], &before.bytes()[40..KEYS_START]);
-    let counts = &before.bytes()[COUNTS_START..];
+    let bytes = before.bytes();
+    let (first, place) = (&bytes[..32], &bytes[START_PLACE..KEYS_START]);
+    let counts = &bytes[COUNTS_START..];
     Record::new(&[first, &[0; 8], place, &[0; KEYS], counts].concat())
 }
 
@@ -242,7 +273,7 @@ fn sessions_after_each_call() {
 /// A session whose bytes are random is handed back as it is, under every number for closed.
 #[test]
 fn any_session_stays() {
-    for call in [Read, Find, Write, Close] {
+    for call in [Read, Find, Write, Release, Close] {
         with_faults(call, |random, base, _| {
             for open in CLOSED {
                 let mut state = base.clone();

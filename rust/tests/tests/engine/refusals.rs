@@ -1,6 +1,6 @@
 //! Each refusal, and the order of any two.
 
-use hiwalgam::Refusal::BadEntry;
+use hiwalgam::Refusal::{BadEntry, BadPermutation};
 use hiwalgam_reference::geometry::Geometry;
 use hiwalgam_tests::interface::{Written, SERVED, UNMAPPED};
 
@@ -62,23 +62,35 @@ fn refusals_of_write() {
 }
 
 #[test]
+fn refusals_of_release() {
+    refuses(Release);
+}
+
+#[test]
 fn refusals_of_close() {
     refuses(Close);
 }
 
-/// What a call does not look at does not refuse it.
+/// What a call does not look at does not refuse it. Of these calls a release alone looks at the whole
+/// permutation.
 #[test]
 fn no_refusal() {
     with_sticks(|_, stick, mut base| {
         let Geometry { s, p, .. } = stick.geometry;
         base.permutation = held_first(p);
         open_and_check(&mut base, stick, 1);
-        let changes: [fn(&mut State); 9] = [
+        let changes: [fn(&mut State); 6] = [
             // Keys, counts and rows above k, owners above 15.
             |state| state.session.keys[64..].fill(1),
             |state| state.session.counts[2..].fill(MAX),
             |state| state.maps[2 * state.session.p..].fill(UNMAPPED - 1),
             |state| state.owners[2..4].fill(255),
+            // A start place before the held places.
+            |state| state.session.start_place = 0,
+            // Other counts than those of the headers, all allowed.
+            |state| state.session.counts[..2].fill(state.session.p),
+        ];
+        let orders: [fn(&mut State); 3] = [
             // Places after the free one and before the start place, and duplicates.
             |state| state.permutation[3..].fill(UNMAPPED),
             |state| state.permutation[..2].fill(UNMAPPED),
@@ -86,25 +98,32 @@ fn no_refusal() {
                 state.permutation[1] = state.permutation[0];
                 state.session.start_place = 0;
             },
-            // A start place before the held places.
-            |state| state.session.start_place = 0,
-            // Other counts than those of the headers, all allowed.
-            |state| state.session.counts[..2].fill(state.session.p),
         ];
-        for change in changes {
-            for (call, address) in [(Read, 0), (Find, 0), (Write, 0), (Write, s), (Close, 0)] {
+        let changes = changes.map(|change| (change, SERVED));
+        let orders = orders.map(|change| (change, Err(BadPermutation)));
+        for (change, released) in changes.into_iter().chain(orders) {
+            for (call, address, expected) in [
+                (Read, 0, SERVED),
+                (Find, 0, SERVED),
+                (Write, 0, SERVED),
+                (Write, s, SERVED),
+                (Release, 0, released),
+                (Close, 0, SERVED),
+            ] {
                 let mut state = base.clone();
                 state.target = at(1, address);
                 change(&mut state);
-                assert_eq!(run(call, &mut state), SERVED, "{call:?}");
+                assert_eq!(run(call, &mut state), expected, "{call:?}");
                 assert!(call != Find || state.found == state.session.b);
             }
         }
-        // Read and write look at the asked entry alone, and a rewrite at no owner and no place.
+        // Read, write and release look at the asked entry alone, a release and a rewrite at no owner, and
+        // a rewrite at no place.
         base.target = at(1, 0);
         base.maps.fill(p as u32);
         base.maps[p] = 3;
         base.owners.fill(0);
+        assert_eq!(run(Release, &mut base.clone()), SERVED);
         base.permutation.fill(UNMAPPED);
         for call in [Read, Find, Write] {
             assert_eq!(run(call, &mut base), SERVED);

@@ -38,6 +38,7 @@ pub fn request(random: &mut Random, state: &mut State, order: &[u32]) -> Call {
         let addresses = [end, end + 1, p * s - 1, p * s, p * s + 1, 1 << 32, MAX];
         state.target.address = random.pick(&addresses);
     }
+    state.logical = logical_slice(random, state, volume);
     let len = |random: &mut Random| match random.once_in(25) {
         true => random.pick(&[0, 1, b - 1, b + 1, 5120 - b]),
         false => b,
@@ -63,7 +64,24 @@ pub fn request(random: &mut Random, state: &mut State, order: &[u32]) -> Call {
         let positions = [len - b, len - b + 1, len - 16, len - 15, len, len + 1, MAX];
         state.position = random.pick(&positions);
     }
-    random.pick(&[Write, Write, Write, Write, Read, Read, Read, Find])
+    random.pick(&[
+        Write, Write, Write, Write, Write, Read, Read, Read, Find, Release, Release,
+    ])
+}
+
+/// A logical slice of a volume to release: at least half of them are mapped, where the volume has any.
+fn logical_slice(random: &mut Random, state: &State, volume: usize) -> usize {
+    let (p, count) = (state.session.p, state.session.counts[volume]);
+    if random.once_in(25) {
+        return random.pick(&[count, count + 1, p - 1, p, p + 1, 1 << 32, MAX]);
+    }
+    let row = state.maps[volume * p..(volume + 1) * p].iter();
+    let mapped = row.enumerate().filter(|(_, &entry)| entry != UNMAPPED);
+    let mapped: Vec<usize> = mapped.map(|(logical, _)| logical).collect();
+    match mapped.is_empty() || random.once_in(2) {
+        true => random.below(count),
+        false => random.pick(&mapped),
+    }
 }
 
 /// A permutation, sometimes with an entry that is another's duplicate or no slice.
@@ -80,7 +98,7 @@ fn permutation(random: &mut Random, p: usize) -> Guarded<u32> {
 pub fn spoil(random: &mut Random, state: &mut State) {
     let edge = random.pick(&EDGES);
     let near = |random: &mut Random, len: usize| random.pick(&[0, len / 2, len + 1, 2 * len]);
-    match random.below(31) {
+    match random.below(32) {
         0 => state.session.b = edge,
         1 => state.session.s = edge,
         2 => state.session.p = edge,
@@ -141,6 +159,10 @@ pub fn spoil(random: &mut Random, state: &mut State) {
             // Another number of volumes, with a count for each.
             state.volumes = random.pick(&[0, 1, 2, 15, 16, 17]);
             state.counts = Guarded::new(&vec![1; state.volumes]);
+        }
+        29 => {
+            let p = state.session.p;
+            state.logical = random.pick(&[edge, p.wrapping_sub(1), p, p.wrapping_add(1)]);
         }
         _ => {
             // Mostly in the master block and the headers.

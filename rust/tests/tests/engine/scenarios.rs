@@ -1,6 +1,6 @@
 //! Random lists of requests on random sticks, judged by what an array of blocks would answer.
 
-use std::collections::HashMap;
+use std::collections::{HashMap, HashSet};
 
 use hiwalgam::Refusal::{NotOpen, TapeShort};
 use hiwalgam_reference::geometry::{Geometry, IV};
@@ -16,9 +16,13 @@ use crate::state::{at, geometry, open_and_check, run, run_places, State, CALLS, 
 /// they hold.
 pub struct Model {
     texts: HashMap<Target, Vec<u8>>,
+    /// Blocks of slices that were released in a session that was not closed: what they hold depends on
+    /// the claims that came after.
+    unknown: HashSet<Target>,
     slices: HashMap<(usize, usize), usize>,
-    /// The claims since the opening.
-    claims: Vec<(usize, usize)>,
+    /// The slices by the maps on the stick, and the logical slices that were claimed or released since.
+    stored: HashMap<(usize, usize), usize>,
+    changed: HashSet<(usize, usize)>,
 }
 
 impl Model {
@@ -33,25 +37,40 @@ impl Model {
         }
         Model {
             texts: stick.texts.clone(),
+            unknown: HashSet::new(),
+            stored: slices.clone(),
             slices,
-            claims: Vec::new(),
+            changed: HashSet::new(),
         }
     }
 
     /// Forgets the volumes above k, which can lose slices to claims.
     fn opened(&mut self, k: usize) {
         self.texts.retain(|target, _| target.volume <= k);
+        self.unknown.retain(|target| target.volume <= k);
         self.slices.retain(|&(volume, _), _| volume <= k);
-        self.claims.clear();
+        self.stored = self.slices.clone();
     }
 
-    /// A session ended without a close: its claims are lost.
-    fn lost(&mut self, s: usize) {
-        for (volume, logical) in std::mem::take(&mut self.claims) {
-            self.slices.remove(&(volume, logical));
-            self.texts
-                .retain(|target, _| target.volume != volume || target.address / s != logical);
+    /// Makes the blocks of a logical slice zeros.
+    fn clear(&mut self, (volume, logical): (usize, usize), s: usize) {
+        for address in logical * s..(logical + 1) * s {
+            self.texts.remove(&at(volume, address));
+            self.unknown.remove(&at(volume, address));
         }
+    }
+
+    /// A session ended without a close: its claims and releases are lost.
+    fn lost(&mut self, s: usize) {
+        for place in std::mem::take(&mut self.changed) {
+            self.clear(place, s);
+            if self.stored.contains_key(&place) {
+                let blocks = place.1 * s..(place.1 + 1) * s;
+                let blocks = blocks.map(|address| at(place.0, address));
+                self.unknown.extend(blocks);
+            }
+        }
+        self.slices = self.stored.clone();
     }
 
     fn text(&self, target: Target, b: usize) -> Vec<u8> {
@@ -64,6 +83,7 @@ impl Model {
         let place = (state.target.volume, state.target.address / s);
         let held = self.slices.get(&place);
         match call {
+            Read if self.unknown.contains(&state.target) => {}
             Read => assert!(state.buf[..] == self.text(state.target, b), "read"),
             Write if answer.claimed == 1 => {
                 assert_eq!(held, None, "claimed");
@@ -74,14 +94,24 @@ impl Model {
                 let first = order.skip(start).position(|slice| !held.contains(&slice));
                 assert_eq!(first, Some(answer.probes - 1), "first free place");
                 self.slices.insert(place, answer.slice);
-                self.claims.push(place);
+                self.changed.insert(place);
             }
             Write => assert_eq!(held, Some(&answer.slice), "rewritten"),
-            Close => self.claims.clear(),
+            Release => {
+                let place = (state.target.volume, state.logical);
+                assert_eq!(self.slices.remove(&place), Some(answer.slice), "released");
+                self.changed.insert(place);
+                self.clear(place, s);
+            }
+            Close => {
+                self.stored = self.slices.clone();
+                self.changed.clear();
+            }
             Format | Open | Find => {}
         }
         if call == Write {
             self.texts.insert(state.target, state.text.to_vec());
+            self.unknown.remove(&state.target);
         }
     }
 
@@ -93,6 +123,9 @@ impl Model {
         for (volume, &count) in counts[..=k].iter().enumerate() {
             for address in 0..count * s {
                 state.target = at(volume, address);
+                if self.unknown.contains(&state.target) {
+                    continue;
+                }
                 let text = self.text(state.target, b);
                 for engine in ENGINES {
                     state.buf = Guarded::blank(b);

@@ -1,7 +1,7 @@
 //! The start place of a session: where claims begin to look, and what it adds up to.
 
 use hiwalgam::Refusal::{self, BadPermutation, NoFreeSlice, NotOpen, TapeShort};
-use hiwalgam_reference::geometry::IV;
+use hiwalgam_reference::geometry::{Geometry, IV};
 use hiwalgam_tests::inputs::{Guarded, Random};
 use hiwalgam_tests::interface::{Answer, Written, SERVED, UNMAPPED};
 use hiwalgam_tests::stick::{Stick, Volume};
@@ -11,53 +11,86 @@ use crate::state::Call::*;
 use crate::state::{at, geometry, open_and_check, run, run_places, State};
 
 /// The volumes of these sticks. All are opened.
-const COUNT: usize = 3;
+pub const COUNT: usize = 3;
 
 // ---- sticks and requests
 
-/// A stick of which all slices but the named ones are held, each by some volume, opened with a
-/// permutation.
-fn opened_with_free(random: &mut Random, p: usize, free: &[u32], order: &[u32]) -> State {
-    let layout = geometry(1024, 1, p);
+/// A stick of which all slices but the named ones are held, each by some volume.
+pub fn stick_with_free(random: &mut Random, layout: Geometry, free: &[u32]) -> Stick {
     let mut volumes: Vec<Volume> = (0..COUNT).map(|_| Volume::new(random, layout)).collect();
-    for slice in (0..p as u32).filter(|slice| !free.contains(slice)) {
+    for slice in (0..layout.p as u32).filter(|slice| !free.contains(slice)) {
         let mut entries = volumes[random.below(COUNT)].map.iter_mut();
         let unmapped = entries.find(|entry| **entry == UNMAPPED);
         *unmapped.unwrap() = slice;
     }
-    let stick = Stick::new(random, layout, volumes);
-    let mut state = State::new(random, &stick, COUNT - 1);
+    Stick::new(random, layout, volumes)
+}
+
+/// All volumes of a stick, opened with a permutation.
+pub fn opened(random: &mut Random, stick: &Stick, order: &[u32]) -> State {
+    let k = stick.volumes.len() - 1;
+    let mut state = State::new(random, stick, k);
     state.permutation = Guarded::new(order);
-    open_and_check(&mut state, &stick, COUNT - 1);
+    open_and_check(&mut state, stick, k);
     state
 }
 
-/// The blocks whose entries are mapped, or those whose entries are not.
-fn targets(state: &State, mapped: bool) -> Vec<usize> {
-    let entries = state.maps[..COUNT * state.session.p].iter().enumerate();
+/// A stick with slices of one block of which all but the named ones are held, opened with a permutation.
+pub fn opened_with_free(random: &mut Random, p: usize, free: &[u32], order: &[u32]) -> State {
+    let stick = stick_with_free(random, geometry(1024, 1, p), free);
+    opened(random, &stick, order)
+}
+
+/// The indices of the entries of open volumes that are mapped, or of those that are not. Each volume is
+/// as large as the stick.
+pub fn targets(state: &State, mapped: bool) -> Vec<usize> {
+    let rows = state.session.k + 1;
+    let entries = state.maps[..rows * state.session.p].iter().enumerate();
     let entries = entries.filter(|(_, &entry)| (entry != UNMAPPED) == mapped);
     entries.map(|(index, _)| index).collect()
 }
 
-/// Makes a block with a mapped entry, or with one that is not, the target. There must be one.
-fn aim(random: &mut Random, state: &mut State, mapped: bool) {
-    let (index, p) = (random.pick(&targets(state, mapped)), state.session.p);
-    state.target = at(index / p, index % p);
+/// Makes a logical slice that is mapped, or one that is not, and some block of it the target. There must
+/// be one.
+pub fn aim(random: &mut Random, state: &mut State, mapped: bool) {
+    let index = random.pick(&targets(state, mapped));
+    aim_at(random, state, index);
+}
+
+/// Makes the logical slice with the entry at an index and some block of it the target.
+pub fn aim_at(random: &mut Random, state: &mut State, index: usize) {
+    let (s, p) = (state.session.s, state.session.p);
+    state.logical = index % p;
+    state.target = at(index / p, state.logical * s + random.below(s));
 }
 
 /// A write of some text with a tape that is long enough.
-fn write(random: &mut Random, state: &mut State, mapped: bool) -> Written {
+pub fn write(random: &mut Random, state: &mut State, mapped: bool) -> Written {
     aim(random, state, mapped);
     state.text = random.bytes(state.session.b);
     state.new_tape(random, state.session.b);
     run_places(Write, state).0
 }
 
-fn claim(random: &mut Random, state: &mut State) -> Written {
+pub fn claim(random: &mut Random, state: &mut State) -> Written {
     write(random, state, false)
 }
 
-fn claimed(slice: u32, probes: usize) -> Written {
+/// Releases some logical slice that is mapped.
+pub fn release(random: &mut Random, state: &mut State) -> Written {
+    aim(random, state, true);
+    run_places(Release, state).0
+}
+
+/// The answer of a release that is served.
+pub fn freed(slice: u32) -> Written {
+    Written {
+        slice: slice as usize,
+        ..Written::of(SERVED)
+    }
+}
+
+pub fn claimed(slice: u32, probes: usize) -> Written {
     Written {
         claimed: 1,
         slice: slice as usize,
@@ -66,7 +99,7 @@ fn claimed(slice: u32, probes: usize) -> Written {
     }
 }
 
-fn refused(refusal: Refusal, probes: usize) -> Written {
+pub fn refused(refusal: Refusal, probes: usize) -> Written {
     Written {
         probes,
         ..Written::of(Err(refusal))
@@ -200,7 +233,7 @@ fn any_allowed_start_place() {
     assert!(reached.iter().all(|&times| times >= 20), "{reached:?}");
 }
 
-/// All calls but a claim leave the start place: a claim that lacks tape, a rewrite, a read, a find and a
+/// All calls but a claim and a release leave the start place: a claim that lacks tape, a rewrite, a read, a find and a
 /// close.
 fn check_other_calls(random: &mut Random, base: &State, start: usize) {
     let mut state = base.clone();
@@ -246,6 +279,7 @@ fn start_places_above_p() {
                     assert_eq!(run(Read, &mut state), Err(NotOpen), "P {p}, {start}");
                     assert_eq!(run(Find, &mut state), SERVED);
                     assert_eq!(state.found, 0, "P {p}, {start}");
+                    assert_eq!(run(Release, &mut state), Err(NotOpen), "P {p}, {start}");
                 }
                 assert_eq!(run(Close, &mut state), Err(NotOpen), "P {p}, {start}");
                 assert_eq!(state.session.start_place, start);
@@ -300,10 +334,10 @@ fn another_permutation() {
 
 /// How often each kind of answer came up.
 #[derive(Default, Debug)]
-struct Reached {
-    claims: usize,
+pub struct Reached {
+    pub claims: usize,
     rewrites: usize,
-    full: usize,
+    pub full: usize,
     bad_places: usize,
     short_tapes: usize,
     others: usize,
@@ -313,7 +347,7 @@ struct Reached {
 
 impl Reached {
     /// Counts an answer, and gives the probes that are to be added up.
-    fn add(&mut self, written: Written) -> usize {
+    pub fn add(&mut self, written: Written) -> usize {
         let Written {
             answer,
             claimed,
@@ -338,7 +372,7 @@ impl Reached {
 
 /// A write with some permutation, to some entry. Some permutations name no slice at some places, some
 /// tapes are too short, and some addresses are past the end.
-fn any_write(random: &mut Random, state: &mut State) -> Written {
+pub fn any_write(random: &mut Random, state: &mut State) -> Written {
     let (b, p) = (state.session.b, state.session.p);
     let mut order = random.permutation(p);
     for _ in 0..random.below(3) {
@@ -357,8 +391,8 @@ fn any_write(random: &mut Random, state: &mut State) -> Written {
     run_places(Write, state).0
 }
 
-/// Over one session the counts add up to at most P, whatever permutation each call is handed, and the
-/// start place is always that of the opening plus the counts so far.
+/// Over one session without releases the counts add up to at most P, whatever permutation each call is
+/// handed, and the start place is always that of the opening plus the counts so far.
 #[test]
 fn counts_of_a_session() {
     let mut random = Random::seeded();
@@ -410,17 +444,21 @@ fn counts_of_a_session() {
 
 /// While session, tables and permutation pass on untouched, no slice at a place before the start is
 /// free: a claim takes the slice that a search from place 0 takes, and is refused by 22 where no slice
-/// at all is free.
+/// at all is free. A release with that permutation keeps to it.
 #[test]
 fn the_slice_that_a_search_from_0_takes() {
     let mut random = Random::seeded();
-    let mut reached = Reached::default();
+    let (mut reached, mut releases) = (Reached::default(), 0);
     for p in [1, 2, 4, 17, 40] {
         for _ in 0..25 {
             let count = random.below(p + 1);
             let (free, order) = (random.permutation(p), random.permutation(p));
             let mut state = opened_with_free(&mut random, p, &free[..count], &order);
-            for _ in 0..count + 3 {
+            for _ in 0..2 * count + 5 {
+                if random.once_in(3) && !targets(&state, true).is_empty() {
+                    assert_eq!(release(&mut random, &mut state).answer, SERVED);
+                    releases += 1;
+                }
                 let from_0 = state.first_free(0);
                 assert!(state.session.start_place <= from_0);
                 let mapped = random.once_in(5) && !targets(&state, true).is_empty();
@@ -447,8 +485,6 @@ fn the_slice_that_a_search_from_0_takes() {
         full,
         ..
     } = reached;
-    assert!(
-        [claims, rewrites, full].iter().all(|&times| times >= 50),
-        "{reached:?}"
-    );
+    let times = [claims, rewrites, full, releases];
+    assert!(times.iter().all(|&times| times >= 50), "{times:?}");
 }

@@ -18,11 +18,12 @@ pub enum Call {
     Read,
     Find,
     Write,
+    Release,
     Close,
 }
 use Call::*;
 
-pub const CALLS: [Call; 6] = [Format, Open, Read, Find, Write, Close];
+pub const CALLS: [Call; 7] = [Format, Open, Read, Find, Write, Release, Close];
 
 pub const ENGINES: [&dyn Engine; 3] = [&CFunctions, &Wrapper, &Reference];
 
@@ -44,6 +45,8 @@ pub struct State {
     pub key: Guarded,
     pub permutation: Guarded<u32>,
     pub target: Target,
+    /// The logical slice of the target's volume that a release is for.
+    pub logical: usize,
     pub text: Guarded,
     pub buf: Guarded,
     /// The length that the last find gave.
@@ -70,6 +73,7 @@ impl State {
             key: Guarded::new(&stick.volumes[k].key),
             permutation: Guarded::new(&random.permutation(p)),
             target: at(0, 0),
+            logical: 0,
             text: random.bytes(b),
             buf: Guarded::blank(b),
             found: 0,
@@ -94,6 +98,11 @@ impl State {
         self.target.volume * self.session.p + self.target.address / self.session.s
     }
 
+    /// The index of the map entry that a release is for.
+    pub fn released_entry(&self) -> usize {
+        self.target.volume * self.session.p + self.logical
+    }
+
     /// The offset of the target's block in its slice.
     fn offset(&self) -> usize {
         self.target.address % self.session.s
@@ -108,7 +117,14 @@ impl State {
         free.next().unwrap_or(self.permutation.len())
     }
 
-    /// Makes the call. The answer has zeros for what only a write gives.
+    /// The place of a slice in the permutation, which must name it.
+    pub fn place_of(&self, slice: usize) -> usize {
+        let mut places = self.permutation.iter();
+        let place = places.position(|&named| named as usize == slice);
+        place.unwrap()
+    }
+
+    /// Makes the call. The answer has zeros for what the call does not give.
     pub fn call(&mut self, call: Call, engine: &dyn Engine) -> Written {
         let (device, session) = (&mut self.device, &mut self.session);
         let mut tables = Tables {
@@ -137,6 +153,16 @@ impl State {
                 Written::of(SERVED)
             }
             Write => engine.write(device, tables, order, tape, session, target, &self.text),
+            Release => {
+                let (volume, logical) = (target.volume, self.logical);
+                match engine.release(device, tables, order, session, volume, logical) {
+                    Ok(slice) => Written {
+                        slice,
+                        ..Written::of(SERVED)
+                    },
+                    Err(refusal) => Written::of(Err(refusal)),
+                }
+            }
             Close => Written::of(engine.close(device, tables, tape, session)),
         };
         self.position = tape.position;
@@ -229,8 +255,9 @@ fn effect(
         (Find, _) => after_find(&mut state, after.found),
         (Write, Ok(())) => after_write(&mut state, answer, after),
         (Write, Err(Refusal::NoFreeSlice)) => after_search(&mut state, answer),
+        (Release, Ok(())) => after_release(&mut state, answer),
         (Close, Ok(())) => after_close(&mut state, after),
-        (Format | Read | Write | Close, Err(_)) => Vec::new(),
+        (Format | Read | Write | Release | Close, Err(_)) => Vec::new(),
     };
     for place in &places {
         state.device[place.clone()].copy_from_slice(&after.device[place.clone()]);
@@ -337,6 +364,18 @@ fn after_search(state: &mut State, answer: Written) -> Vec<Range<usize>> {
     assert_eq!(state.first_free(start_place), p, "no free slice");
     assert_eq!(answer.probes, p - start_place, "probes");
     state.session.start_place = p;
+    Vec::new()
+}
+
+/// A release changes the asked entry, the owner of its slice and the start place, and writes no byte
+/// of the device.
+fn after_release(state: &mut State, answer: Written) -> Vec<Range<usize>> {
+    let (entry, slice) = (state.released_entry(), answer.slice);
+    assert_eq!((answer.claimed, answer.probes), (0, 0));
+    assert_eq!(state.maps[entry], slice as u32, "slice freed");
+    state.maps[entry] = UNMAPPED;
+    state.owners[slice] = 0;
+    state.session.start_place = state.session.start_place.min(state.place_of(slice));
     Vec::new()
 }
 

@@ -58,6 +58,7 @@ fn run_both(
     two.position = one.position;
     two.permutation = one.permutation.clone();
     two.target = one.target;
+    two.logical = one.logical;
     two.text = one.text.clone();
     // A buffer to fill is alike in length only.
     two.buf = random.bytes(one.buf.len());
