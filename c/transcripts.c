@@ -21,16 +21,16 @@
 
 /*
  * The lists and structs that calls take. KEY is one key or several, COUNTS the logical slices of the volumes that a
- * formatting makes, TEXT what is enciphered, BUFFER what is filled.
+ * formatting makes, TEXT what is enciphered, BUFFER what is filled, SLICE the one that a release frees.
  */
 enum part {
-    DEVICE, GEOMETRY, KEY, COUNTS, MAPS, OWNERS, PERMUTATION, TAPE, POSITION, SESSION, TEXT, BUFFER, WRITTEN, IV, AAD, TAG,
-    PARTS
+    DEVICE, GEOMETRY, KEY, COUNTS, MAPS, OWNERS, PERMUTATION, TAPE, POSITION, SESSION, TEXT, BUFFER, WRITTEN, SLICE, IV,
+    AAD, TAG, PARTS
 };
 
 static const char *const PART_NAMES[PARTS] = {
     "device", "geometry", "key", "counts", "map table", "owner table", "permutation", "tape", "tape position",
-    "session", "text", "buffer", "written", "IV", "associated data", "tag"
+    "session", "text", "buffer", "written", "slice", "IV", "associated data", "tag"
 };
 
 /*
@@ -71,6 +71,7 @@ struct bench {
     struct states parts[PARTS];
     uint64_t volume;
     uint64_t address;
+    uint64_t logical_slice; /* of a release */
     size_t volumes;         /* that a formatting makes: the number of its keys */
     uint64_t text_position; /* of keystream_at */
     size_t calls;
@@ -109,11 +110,11 @@ static void store(struct bytes *place, const void *from, size_t length)
     if (length != 0) memcpy(place->at, from, length);
 }
 
-/* Lists of uint32_t and uint64_t and a size_t stay aligned in every placement, as the header asks; other parts do not. */
+/* Lists of uint32_t and uint64_t, a uint64_t and a size_t stay aligned in every placement, as the header asks. */
 static size_t shift_of(int part)
 {
     if (part == MAPS || part == PERMUTATION) return sizeof(uint32_t);
-    if (part == COUNTS) return sizeof(uint64_t);
+    if (part == COUNTS || part == SLICE) return sizeof(uint64_t);
     if (part == POSITION) return sizeof(size_t);
     return 2 * (size_t)part + 1;
 }
@@ -259,20 +260,23 @@ static void compare(struct bench *bench)
 
 /* ---- Calls ---------------------------------------------------------------------------------------------------- */
 
-enum function { OPEN, READ, FIND, WRITE, CLOSE, FORMAT, COUNTER_MODE, KEYSTREAM_AT, GCM_SEAL, GCM_OPEN, FUNCTIONS };
+enum function {
+    OPEN, READ, FIND, WRITE, RELEASE, CLOSE, FORMAT, COUNTER_MODE, KEYSTREAM_AT, GCM_SEAL, GCM_OPEN, FUNCTIONS
+};
 
 static const char *const FUNCTION_NAMES[FUNCTIONS] = {
-    "open", "read", "find", "write", "close", "format", "counter_mode", "keystream_at", "gcm_seal", "gcm_open"
+    "open", "read", "find", "write", "release", "close", "format", "counter_mode", "keystream_at", "gcm_seal", "gcm_open"
 };
 
 #define BIT(part) (1u << (part))
 
-/* The lists and structs of each function; the tape position, which is never NULL, is left out. */
+/* The lists and structs of each function; the tape position and a release's slice, which are never NULL, are left out. */
 static const unsigned TAKES[FUNCTIONS] = {
     BIT(DEVICE) | BIT(GEOMETRY) | BIT(KEY) | BIT(MAPS) | BIT(OWNERS) | BIT(PERMUTATION) | BIT(SESSION),
     BIT(DEVICE) | BIT(MAPS) | BIT(OWNERS) | BIT(SESSION) | BIT(BUFFER),
     BIT(DEVICE) | BIT(MAPS) | BIT(OWNERS) | BIT(SESSION) | BIT(BUFFER),
     BIT(DEVICE) | BIT(MAPS) | BIT(OWNERS) | BIT(PERMUTATION) | BIT(TAPE) | BIT(SESSION) | BIT(TEXT) | BIT(WRITTEN),
+    BIT(DEVICE) | BIT(MAPS) | BIT(OWNERS) | BIT(PERMUTATION) | BIT(SESSION),
     BIT(DEVICE) | BIT(MAPS) | BIT(OWNERS) | BIT(TAPE) | BIT(SESSION),
     BIT(DEVICE) | BIT(GEOMETRY) | BIT(KEY) | BIT(COUNTS) | BIT(TAPE),
     BIT(KEY) | BIT(IV) | BIT(TEXT) | BIT(BUFFER),
@@ -355,6 +359,16 @@ static uint8_t call_write(struct bench *b)
                           (hiwalgam_written *)(void *)bytes_of(b, WRITTEN), length_of(b, WRITTEN));
 }
 
+static uint8_t call_release(struct bench *b)
+{
+    return hiwalgam_release(bytes_of(b, DEVICE), length_of(b, DEVICE),
+                            numbers_of(b, MAPS), count_of(b, MAPS),
+                            bytes_of(b, OWNERS), length_of(b, OWNERS),
+                            numbers_of(b, PERMUTATION), count_of(b, PERMUTATION),
+                            session_of(b), length_of(b, SESSION),
+                            b->volume, b->logical_slice, (uint64_t *)(void *)bytes_of(b, SLICE));
+}
+
 static uint8_t call_close(struct bench *b)
 {
     return hiwalgam_close(bytes_of(b, DEVICE), length_of(b, DEVICE),
@@ -409,6 +423,7 @@ static size_t call(struct bench *bench, int function)
     case READ: return call_read(bench);
     case FIND: return call_find(bench);
     case WRITE: return call_write(bench);
+    case RELEASE: return call_release(bench);
     case CLOSE: return call_close(bench);
     case FORMAT: return call_format(bench);
     case COUNTER_MODE: return call_counter_mode(bench);
@@ -440,6 +455,17 @@ static void expect_written(struct bench *bench, uint64_t claimed, uint64_t slice
     written.slice = slice;
     written.probes = probes;
     expect(bench, WRITTEN, &written, sizeof written);
+}
+
+/* Lends the number that a served release sets, and expects it to stay. */
+static void lend_slice(struct bench *bench)
+{
+    lend_filled(bench, SLICE, sizeof(uint64_t), UNSET_BYTE);
+}
+
+static void expect_slice(struct bench *bench, uint64_t slice)
+{
+    expect(bench, SLICE, &slice, sizeof slice);
 }
 
 /* Finds with an `out` of `room` bytes, and expects `length` bytes of the device from `at` on, or nothing. */
@@ -982,6 +1008,22 @@ static void line_write(struct bench *bench, struct words *words)
     free(text.at);
 }
 
+static void line_release(struct bench *bench, struct words *words)
+{
+    uint64_t answer, slice = 0;
+
+    bench->volume = take_number(words, UINT64_MAX);
+    bench->logical_slice = take_number(words, UINT64_MAX);
+    take_equals(words);
+    answer = take_number(words, UINT8_MAX);
+    if (answer == HIWALGAM_SERVED) slice = take_number(words, UINT64_MAX);
+    take_end(words);
+    if (words->wrong) return;
+    lend_slice(bench);
+    if (answer == HIWALGAM_SERVED) expect_slice(bench, slice);
+    check_answer(bench, RELEASE, (size_t)answer);
+}
+
 static void line_close(struct bench *bench, struct words *words)
 {
     uint64_t answer;
@@ -1049,6 +1091,7 @@ static void run_line(struct bench *bench, struct words *words, int *compare_is_d
         else if (take_this(words, "read")) line_read(bench, words);
         else if (take_this(words, "find")) line_find(bench, words);
         else if (take_this(words, "write")) line_write(bench, words);
+        else if (take_this(words, "release")) line_release(bench, words);
         else if (take_this(words, "close")) line_close(bench, words);
         else if (take_this(words, "format")) line_format(bench, words);
         else words->wrong = 1;
@@ -1121,7 +1164,17 @@ static void lend_hex(struct bench *bench, int part, const char *hex)
  * Address 4 of volume 0 has slice 2. Address 0 has none, and a claim takes slice 1, which alone is free: it stands at the
  * last of the four places, where the session's start place is, and so has one probe.
  */
-enum { SMALL_B = 1024, SMALL_P = 4, SMALL_MAPPED = 4, SMALL_UNMAPPED = 0, SMALL_START = 3, SMALL_PROBES = 1 };
+enum {
+    SMALL_B = 1024, SMALL_S = 4, SMALL_P = 4, SMALL_MAPPED = 4, SMALL_UNMAPPED = 0, SMALL_START = 3, SMALL_PROBES = 1
+};
+
+/* What the next call asks for: a block, or for a release the logical slice that the block is in, of so many blocks. */
+static void ask(struct bench *bench, uint64_t volume, uint64_t address, uint64_t slice_blocks)
+{
+    bench->volume = volume;
+    bench->address = address;
+    bench->logical_slice = address / slice_blocks;
+}
 
 /* The data keys of its volumes 0, 1 and 2. */
 static const char SMALL_DATA_KEYS[] =
@@ -1135,7 +1188,7 @@ static const char SMALL_DATA_KEYS[] =
  */
 static int open_small(struct bench *bench)
 {
-    const hiwalgam_geometry geometry = { SMALL_B, 4, 4 };
+    const hiwalgam_geometry geometry = { SMALL_B, SMALL_S, SMALL_P };
     const uint32_t permutation[4] = { 2, 0, 3, 1 };
     const uint64_t count = SMALL_P;
 
@@ -1151,8 +1204,8 @@ static int open_small(struct bench *bench)
     lend_filled(bench, TEXT, SMALL_B, 't');
     lend_filled(bench, BUFFER, SMALL_B, UNSET_BYTE);
     lend_filled(bench, WRITTEN, sizeof(hiwalgam_written), UNSET_BYTE);
-    bench->volume = 0;
-    bench->address = SMALL_MAPPED;
+    lend_slice(bench);
+    ask(bench, 0, SMALL_MAPPED, SMALL_S);
     bench->volumes = 1;
     check_answer(bench, OPEN, HIWALGAM_SERVED);
     keep_all(bench);
@@ -1195,16 +1248,14 @@ static void lend_all_wrong(struct bench *bench, int function)
         if (is_struct(part)) lend_filled(bench, part, length_of(bench, part), UNSET_BYTE);
         else lend_null(bench, part);
     }
-    bench->volume = UINT64_MAX;
-    bench->address = UINT64_MAX;
+    ask(bench, UINT64_MAX, UINT64_MAX, 1);
     bench->volumes = SIZE_MAX;
 }
 
 static void case_size(struct bench *bench, int function, int part, int which, int all_wrong)
 {
     put_all_back(bench);
-    bench->volume = 0;
-    bench->address = SMALL_MAPPED;
+    ask(bench, 0, SMALL_MAPPED, SMALL_S);
     bench->volumes = 1;
     if (all_wrong) lend_all_wrong(bench, function);
     lend_resized(bench, part, other_size(bench, part, which));
@@ -1251,6 +1302,8 @@ static const struct refusal NULL_REFUSALS[] = {
     { FIND, SESSION, 0 }, { FIND, DEVICE, 0 }, { FIND, MAPS, 0 }, { FIND, OWNERS, 0 },
     { WRITE, SESSION, 13 }, { WRITE, WRITTEN, 13 }, { WRITE, DEVICE, 2 }, { WRITE, MAPS, 4 }, { WRITE, OWNERS, 4 },
     { WRITE, PERMUTATION, 5 }, { WRITE, TEXT, 13 }, { WRITE, TAPE, 21 },
+    { RELEASE, SESSION, 13 }, { RELEASE, DEVICE, 2 }, { RELEASE, MAPS, 4 }, { RELEASE, OWNERS, 4 },
+    { RELEASE, PERMUTATION, 5 },
     { CLOSE, SESSION, 13 }, { CLOSE, DEVICE, 2 }, { CLOSE, MAPS, 4 }, { CLOSE, OWNERS, 4 }, { CLOSE, TAPE, 21 },
     { FORMAT, GEOMETRY, 13 }, { FORMAT, COUNTS, 1 }, { FORMAT, DEVICE, 2 }, { FORMAT, KEY, 3 }, { FORMAT, TAPE, 21 }
 };
@@ -1281,7 +1334,7 @@ static void case_null(struct bench *bench, int function, unsigned nulls, uint64_
         put_back(bench, part);
         if ((nulls & BIT(part)) != 0) lend_null(bench, part);
     }
-    bench->address = address;
+    ask(bench, 0, address, SMALL_S);
     bench->volumes = volumes;
     if (function == OPEN && answer != HIWALGAM_WRONG_LENGTH) expect_zeros(bench, SESSION);
     if (function == WRITE && (nulls & BIT(WRITTEN)) == 0)
@@ -1297,7 +1350,7 @@ static void group_null(struct bench *bench)
         for (unsigned nulls = 1; nulls < BIT(PARTS); nulls++) {
             if ((nulls & ~TAKES[function]) != 0) continue;
             case_null(bench, function, nulls, SMALL_MAPPED, 1);
-            if (function == WRITE) case_null(bench, function, nulls, SMALL_UNMAPPED, 1);
+            if (function == WRITE || function == RELEASE) case_null(bench, function, nulls, SMALL_UNMAPPED, 1);
             if (function == FORMAT) case_null(bench, function, nulls, SMALL_MAPPED, 0);
         }
 }
@@ -1419,8 +1472,7 @@ static void lend_small(struct bench *bench, uint64_t start_place, uint64_t addre
 {
     put_all_back(bench);
     lend_start(bench, start_place);
-    bench->volume = 0;
-    bench->address = address;
+    ask(bench, 0, address, SMALL_S);
 }
 
 static void lend_owners(struct bench *bench, uint8_t value)
@@ -1511,10 +1563,11 @@ static void case_other_refusals(struct bench *bench, uint64_t start_place)
     check_call(bench, WRITE, HIWALGAM_BAD_ENTRY);
 }
 
-/* Calls that are served and look at no place leave the start place, a close too. */
+/* Calls that are served and look at no place leave the start place, a close too. Releases have a group of their own. */
 static void case_served(struct bench *bench, uint64_t start_place)
 {
     for (int function = READ; function <= CLOSE; function++) {
+        if (function == RELEASE) continue;
         lend_small(bench, start_place, SMALL_MAPPED);
         check_served(bench, function);
     }
@@ -1579,6 +1632,117 @@ static void group_start_above(struct bench *bench)
             }
 }
 
+/* ---- Cases: releases ------------------------------------------------------------------------------------------ */
+
+/* The mapped logical slice of each volume of small.img, its slice, and the place of that. */
+struct mapped {
+    uint64_t logical_slice;
+    uint32_t slice;
+    uint64_t place;
+};
+
+enum { SMALL_VOLUMES = 3 };
+
+static const struct mapped SMALL_SLICES[SMALL_VOLUMES] = { { 1, 2, 0 }, { 3, 0, 1 }, { 0, 3, 2 } };
+
+/* What open_small keeps, with another start place, for a release of a logical slice of some volume. */
+static void lend_release(struct bench *bench, uint64_t start_place, uint64_t volume, uint64_t logical_slice)
+{
+    lend_small(bench, start_place, SMALL_UNMAPPED);
+    bench->volume = volume;
+    bench->logical_slice = logical_slice;
+}
+
+/* Sets an entry in the map table that is lent, and expects it to stay. */
+static void lend_entry(struct bench *bench, size_t volume, uint64_t logical_slice, uint32_t entry)
+{
+    numbers_of(bench, MAPS)[volume * SMALL_P + logical_slice] = entry;
+    expect_as_lent(bench, MAPS);
+}
+
+/* A release of what a volume has, whatever the owner byte is: every byte of session, tables and slice. A second is 25. */
+static void case_release(struct bench *bench, size_t volume, uint64_t start_place, uint8_t owner)
+{
+    const struct mapped *mapped = &SMALL_SLICES[volume];
+    const uint32_t unmapped = HIWALGAM_UNMAPPED;
+
+    lend_release(bench, start_place, volume, mapped->logical_slice);
+    bytes_of(bench, OWNERS)[mapped->slice] = owner;
+    expect_as_lent(bench, OWNERS);
+    bench->parts[OWNERS].expected.at[mapped->slice] = 0;
+    memcpy(bench->parts[MAPS].expected.at + (volume * SMALL_P + mapped->logical_slice) * sizeof unmapped, &unmapped,
+           sizeof unmapped);
+    expect_start(bench, mapped->place < start_place ? mapped->place : start_place);
+    expect_slice(bench, mapped->slice);
+    check_call(bench, RELEASE, HIWALGAM_SERVED);
+
+    lend_slice(bench);
+    check_call(bench, RELEASE, HIWALGAM_SLICE_UNMAPPED);
+}
+
+/* Refusals of a release behind 5, with every start place that is allowed: no byte changes. */
+static void case_refused_release(struct bench *bench, uint64_t start_place)
+{
+    const uint32_t bad[] = { SMALL_P, SMALL_P + 1, 257, (uint32_t)1 << 31, HIWALGAM_UNMAPPED - 1 };
+    const uint64_t above[] = { SMALL_P, SMALL_P + 3, 257, (uint64_t)1 << 32, ((uint64_t)1 << 32) + 1, UINT64_MAX };
+
+    for (size_t i = 0; i < sizeof bad / sizeof *bad; i++) {
+        lend_release(bench, start_place, 0, 1);
+        lend_entry(bench, 0, 1, bad[i]);
+        check_call(bench, RELEASE, HIWALGAM_BAD_ENTRY);
+    }
+    for (size_t i = 0; i < sizeof above / sizeof *above; i++)
+        for (uint64_t volume = 0; volume <= SMALL_VOLUMES; volume++) {
+            lend_release(bench, start_place, volume, above[i]);
+            check_call(bench, RELEASE, volume < SMALL_VOLUMES ? HIWALGAM_ADDRESS_ABOVE : HIWALGAM_VOLUME_ABOVE);
+        }
+}
+
+/* A release refused by 5 whatever it asks for: a mapped logical slice, an unmapped one, a volume above k. */
+static void check_bad_permutation(struct bench *bench, const uint32_t *permutation, size_t count)
+{
+    for (uint64_t asked = 0; asked < 3; asked++) {
+        lend_release(bench, SMALL_START, asked == 2 ? UINT64_MAX : 0, asked);
+        lend(bench, PERMUTATION, permutation, count * sizeof *permutation);
+        check_call(bench, RELEASE, HIWALGAM_BAD_PERMUTATION);
+    }
+}
+
+/* Every place with a number that is no slice, and with one that stands at another place; other lengths. */
+static void case_permutations(struct bench *bench)
+{
+    const uint32_t good[SMALL_P + 1] = { 2, 0, 3, 1, 0 };
+    const uint32_t none[] = { SMALL_P, 257, UINT32_MAX };
+
+    for (size_t place = 0; place < SMALL_P; place++) {
+        uint32_t permutation[SMALL_P];
+        memcpy(permutation, good, sizeof permutation);
+        for (size_t i = 0; i < sizeof none / sizeof *none; i++) {
+            permutation[place] = none[i];
+            check_bad_permutation(bench, permutation, SMALL_P);
+        }
+        for (size_t other = 0; other < SMALL_P; other++) {
+            permutation[place] = good[other];
+            if (other != place) check_bad_permutation(bench, permutation, SMALL_P);
+        }
+    }
+    for (size_t count = 0; count <= SMALL_P + 1; count++)
+        if (count != SMALL_P) check_bad_permutation(bench, good, count);
+}
+
+static void group_releases(struct bench *bench)
+{
+    const uint8_t owners[] = { 0, 1, 2, 3, 16, 255 };
+
+    if (!open_small(bench)) return;
+    for (uint64_t start_place = 0; start_place <= SMALL_P; start_place++) {
+        for (size_t volume = 0; volume < SMALL_VOLUMES; volume++)
+            for (size_t i = 0; i < sizeof owners; i++) case_release(bench, volume, start_place, owners[i]);
+        case_refused_release(bench, start_place);
+    }
+    case_permutations(bench);
+}
+
 /* ---- Cases: counts -------------------------------------------------------------------------------------------- */
 
 /*
@@ -1614,6 +1778,7 @@ static int open_counted(struct bench *bench)
     lend_filled(bench, TEXT, SMALL_B, 't');
     lend_filled(bench, BUFFER, SMALL_B, UNSET_BYTE);
     lend_filled(bench, WRITTEN, sizeof(hiwalgam_written), UNSET_BYTE);
+    lend_slice(bench);
     check_answer(bench, OPEN, HIWALGAM_SERVED);
     expect_as_lent(bench, MAPS);
     expect_as_lent(bench, OWNERS);
@@ -1628,8 +1793,7 @@ static void lend_count(struct bench *bench, size_t row, uint64_t count, uint64_t
 {
     put_all_back(bench);
     lend_number(bench, COUNTS_AT + 8 * row, count);
-    bench->volume = volume;
-    bench->address = address;
+    ask(bench, volume, address, COUNTED_S);
 }
 
 /* A count of 0 or above P up to k: 20, with all else right and with all else wrong, and the session keeps its bytes. */
@@ -1687,13 +1851,16 @@ static void group_counts_above(struct bench *bench)
         }
 }
 
-/* A block behind the end of a volume is 12 with every count that the session holds, a find of it empty; all stays. */
+/*
+ * A block or a logical slice behind the end of a volume is 12 with every count that the session holds, a find of it empty;
+ * all stays.
+ */
 static void case_behind_the_end(struct bench *bench, size_t volume, uint64_t count)
 {
     const uint64_t behind[] = { 0, 1, COUNTED_S, (uint64_t)1 << 32, UINT64_MAX - COUNTED_S * count };
 
     for (size_t i = 0; i < sizeof behind / sizeof *behind; i++)
-        for (int function = READ; function <= WRITE; function++) {
+        for (int function = READ; function <= RELEASE; function++) {
             lend_count(bench, volume, count, volume, COUNTED_S * count + behind[i]);
             if (function == WRITE) expect_zeros(bench, WRITTEN);
             check_call(bench, function, function == FIND ? 0 : HIWALGAM_ADDRESS_ABOVE);
@@ -2201,6 +2368,16 @@ static void case_shared(struct bench *bench, int function, int part, int owner)
     check_call(bench, function, HIWALGAM_SERVED);
 }
 
+/* The permutation of a release may stand in the device, in its 16 salt bytes, which nothing reads. */
+static void case_permutation_in_device(struct bench *bench)
+{
+    const struct bytes *permutation = &bench->parts[PERMUTATION].kept;
+
+    if (bench->placement == UNALIGNED) return; /* the device is not aligned there */
+    memcpy(bench->parts[DEVICE].kept.at, permutation->at, permutation->length);
+    case_shared(bench, RELEASE, PERMUTATION, DEVICE);
+}
+
 static void group_overlap(struct bench *bench)
 {
     if (!open_small(bench)) return;
@@ -2210,6 +2387,7 @@ static void group_overlap(struct bench *bench)
     bench->address = SMALL_MAPPED;
     case_shared(bench, READ, OWNERS, DEVICE);
     case_shared(bench, FORMAT, KEY, TAPE);
+    case_permutation_in_device(bench);
 
     lend_empty_state(bench);
     lend_vector(bench, &COUNTER_MODE_VECTOR, COUNTER_MODE_VECTOR.text);
@@ -2238,10 +2416,10 @@ static const struct group GROUPS[] = {
     { "ignored.txt", run_transcript }, { "lengths.txt", run_transcript }, { "format.txt", run_transcript },
     { "format-sizes.txt", run_transcript }, { "format-refusals.txt", run_transcript },
     { "lower-cells.txt", run_transcript }, { "start-places.txt", run_transcript }, { "counts.txt", run_transcript },
-    { "format-counts.txt", run_transcript },
+    { "format-counts.txt", run_transcript }, { "releases.txt", run_transcript },
     { "sizes of structs", group_struct_sizes }, { "NULL", group_null }, { "closed sessions", group_closed },
     { "layout of a session", group_layout }, { "start places", group_start_places },
-    { "start places above P", group_start_above }, { "bad counts", group_bad_counts },
+    { "start places above P", group_start_above }, { "releases", group_releases }, { "bad counts", group_bad_counts },
     { "counts above k", group_counts_above }, { "ends of volumes", group_ends },
     { "counts of a formatting", group_formatting },
     { "published vectors", group_published }, { "wrong tags", group_wrong_tag }, { "cipher lengths", group_lengths },

@@ -445,7 +445,7 @@ def open_device(lent, key):
 
 
 def standing(lent):
-    """What read, write and close refuse first: 20, 2, 4. Gives the session's geometry."""
+    """What read, write, release and close refuse first: 20, 2, 4. Gives the session's geometry."""
     session = lent.session
     g = Geometry(session.B, session.S, session.P)
     if session.open != 1 or not g.allowed() or session.k > 14 or session.start > g.P:
@@ -530,6 +530,26 @@ def write(lent, volume, address, text):
     lent.owners[psi] = volume + 1
     lent.session = lent.session._replace(start=start + probes)
     return "claimed", psi, probes
+
+
+def release(lent, volume, logical):
+    """Answers the slice freed. The tables and the start place change; no byte of the device does, and no tape is taken."""
+    g = standing(lent)
+    if sorted(lent.permutation) != list(range(g.P)):
+        raise Refused(5)
+    if volume > lent.session.k:
+        raise Refused(11)
+    if logical >= lent.session.counts[volume]:
+        raise Refused(12)
+    psi = lent.maps[volume * g.P + logical]
+    if psi != MARK and psi >= g.P:
+        raise Refused(9)
+    if psi == MARK:
+        raise Refused(25)
+    lent.maps[volume * g.P + logical] = MARK
+    lent.owners[psi] = 0
+    lent.session = lent.session._replace(start=min(lent.session.start, lent.permutation.index(psi)))
+    return psi
 
 
 def close(lent):
@@ -826,6 +846,17 @@ class Transcript:
             if refused.number == 22:
                 thens = [f"start {self.lent.session.start}"]
         self.called(f"write {volume} {address} {add('texts.bin', text)} {len(text)}", expected, outcome, thens)
+
+    def release(self, volume, logical, expected):
+        self.begin()
+        thens = []
+        try:
+            psi = release(self.lent, volume, logical)
+            outcome = f"0 {psi}"
+            thens = [f"entry {volume} {logical} -", f"owner {psi} 0", f"start {self.lent.session.start}"]
+        except Refused as refused:
+            outcome = str(refused.number)
+        self.called(f"release {volume} {logical}", expected, outcome, thens)
 
     def close(self, expected):
         self.begin()
@@ -1148,6 +1179,7 @@ def refusals():
         t.read(2, 16, "20", length=5)
         t.find(0, 4, "0")
         t.write(2, 16, short, "20 0")
+        t.release(2, 16, "20")
         t.close("20")
 
     t.say("2: the device's length.")
@@ -1157,6 +1189,7 @@ def refusals():
         t.read(2, 16, "2", length=5)
         t.find(0, 4, "0")
         t.write(2, 16, short, "2 0")
+        t.release(2, 16, "2")
         t.close("2")
     t.given(whole)
 
@@ -1168,6 +1201,7 @@ def refusals():
         t.read(2, 16, "4", length=5)
         t.find(0, 4, "0")
         t.write(2, 16, short, "4 0")
+        t.release(2, 16, "4")
         t.close("4")
     t.given("maps 60 -")
     t.given("row 0 - 2 - 4")
@@ -1180,6 +1214,13 @@ def refusals():
         t.write(2, 16, short, "5 0")
         t.write(0, 4, some, "5 0")
         t.write(0, 0, some, "5 0")
+    t.say("5: a release's permutation, its length and every place; for a bad entry and an unmapped one too.")
+    for permutation in ("", " 2", " 2 0 3", " 2 0 3 1 0", " 2 0 3 1 4", " 2 0 3 3", " 2 0 3 2", " 0 0 3 1", " 2 0 3 4",
+                        " 4 0 2 1", " 2 0 3 5", " 2 0 3 257", " 2 0 3 65537", " 2 0 3 4294967295", " 3 0 1 1", " 4 4 4 4"):
+        t.given(f"permutation{permutation}")
+        t.release(2, 16, "5")
+        for volume, logical in ((0, 1), (0, 3), (0, 0), (1, 3)):
+            t.release(volume, logical, "5")
     t.given("permutation 2 0 3 1")
 
     t.say("11: volumes above k.")
@@ -1187,12 +1228,18 @@ def refusals():
         t.read(volume, 16, "11", length=5)
         t.find(volume, 4, "0")
         t.write(volume, 16, short, "11 0")
+        t.release(volume, 16, "11")
+        t.release(volume, 1, "11")
 
     t.say("12: addresses past the end.")
     for address in (16, 17, 20, 64, 256 + 4, 2**32, 2**32 + 4, 2**62, 2**64 - 1):
         t.read(0, address, "12", length=5)
         t.find(0, address, "0")
         t.write(1, address, short, "12 0")
+    t.say("12: logical slices past the end. At 6 and 7 of volume 0 stand the bad entry and the slice of volume 1.")
+    for logical in (4, 5, 6, 7, 8, 16, 59, 60, 256 + 1, 2**32, 2**32 + 1, 2**62, 2**63 + 1, 2**64 - 1):
+        t.release(0, logical, "12")
+        t.release(1, logical, "12")
 
     t.say("13: buffers and texts of a wrong length, also where the asked entry is bad.")
     for length in (0, 5, 1023, 1025, 4096):
@@ -1209,6 +1256,16 @@ def refusals():
         t.write(volume, address, some, "9 0")
     t.reads((0, 0, None), (0, 4, small_text(0, 4)), (1, 13, small_text(1, 13)))
     t.find(0, 4, "1024 43008")
+    t.release(0, 3, "9")
+    t.release(1, 2, "9")
+    for entry in (5, 8, 256, 257, 4097, 65536 + 2, 2**31, 2**31 + 2, MARK - 1):
+        t.given(f"entry 0 3 {entry}")
+        t.release(0, 3, "9")
+    t.given("entry 0 3 4")
+
+    t.say("25: a release of a logical slice that has no slice.")
+    for volume, logical in ((0, 0), (0, 2), (1, 0), (1, 1)):
+        t.release(volume, logical, "25")
 
     t.say("A claim's 5: a place that names no slice, met before a free one. It comes before 21: the position is past the end.")
     t.given("start 0")
@@ -3327,6 +3384,635 @@ def format_counts():
     t.finish()
 
 
+# The mapped logical slice of each volume of small.img and its slice. In the permutation 2 0 3 1 that has place 0, 1 and 2.
+SMALL_MAPPED = ((1, 2), (3, 0), (0, 3))
+SMALL_WHOLE = "device small.img 52224"
+
+
+def releases():
+    """Slices that are given back."""
+    t = Transcript(
+        "releases.txt",
+        "Releases: the entry, the owner and the start place afterwards, what reads, finds and claims then give, and that the",
+        "device stays.",
+    )
+    t.lend("small.img", SMALL, [2, 0, 3, 1], tape("releases", 5120), 0)
+    image = small_image()
+    releases_of_each_volume(t, image)
+    releases_and_start_places(t, image)
+    releases_and_claims(t, image)
+    releases_and_permutations(t, image)
+    releases_of_other_tables(t, image)
+    releases_and_closes(t, image)
+    releases_below_the_counts(t, counted_image())
+    releases_of_two_maps(t)
+    releases_of_other_sizes(t)
+    t.finish()
+
+
+def releases_of_each_volume(t, image):
+    """One release after an opening, under each key."""
+    for k in range(3):
+        for volume in range(k + 1):
+            logical, psi = SMALL_MAPPED[volume]
+            t.say(f"Key {k}: the slice of volume {volume} is given back. Its blocks are zeros, the others stay.")
+            t.open(image.key[k], f"0 {k}")
+            t.starts(k + 1)
+            t.release(volume, logical, f"0 {psi}")
+            t.starts(volume)
+            t.image("small.img")
+            for address in range(4 * logical, 4 * logical + 4):
+                t.reads((volume, address, None))
+                t.find(volume, address, "0")
+            t.reads(*small_blocks(*(other for other in range(k + 1) if other != volume)))
+            for other, address, found in ((0, 7, "1024 46080"), (1, 13, "1024 33792"), (2, 0, "1024 48128")):
+                if other <= k and other != volume:
+                    t.find(other, address, found)
+            t.say("A second time it is 25, as the other logical slices are, and all above k is 11.")
+            for unmapped in range(4):
+                t.release(volume, unmapped, "25")
+            t.release(k + 1, 0, "11")
+            t.starts(volume)
+    t.say("All three, in different orders: the start place is the lowest place of them.")
+    for order, places in (((2, 1, 0), (2, 1, 0)), ((1, 2, 0), (1, 1, 0)), ((0, 1, 2), (0, 0, 0))):
+        t.open(image.key[2], "0 2")
+        for volume, place in zip(order, places):
+            t.release(volume, SMALL_MAPPED[volume][0], f"0 {SMALL_MAPPED[volume][1]}")
+            t.starts(place)
+        t.reads(*((volume, address, None) for volume in range(3) for address in (0, 3, 4, 7, 12, 13, 15)))
+        t.image("small.img")
+
+
+def releases_and_start_places(t, image):
+    """Every start place with every place of the slice."""
+    t.say("The start place becomes the lower of itself and the slice's place: each place, with each start place handed in.")
+    t.open(image.key[2], "0 2")
+    for permutation, after in (
+        ("2 0 3 1", (0, 0, 0, 0, 0)), ("0 2 1 3", (0, 1, 1, 1, 1)), ("3 1 2 0", (0, 1, 2, 2, 2)), ("1 0 3 2", (0, 1, 2, 3, 3)),
+    ):
+        t.given(f"permutation {permutation}")
+        for start in range(5):
+            t.given("entry 0 1 2")
+            t.given("owner 2 1")
+            t.given(f"start {start}")
+            t.release(0, 1, "0 2")
+            t.starts(after[start])
+    t.say("Above P it is 20, and stays.")
+    t.given("entry 0 1 2")
+    for start in (5, 256, 257, 2**32, 2**32 + 3, 2**63, 2**64 - 1):
+        t.given(f"start {start}")
+        t.release(0, 1, "20")
+        t.release(0, 0, "20")
+        t.starts(start)
+
+    t.say("No tape is taken: with none, and with a position past the end.")
+    t.given("permutation 2 0 3 1")
+    tape_words = tape("releases", 5120)
+    t.given("tape tapes.bin 0 0")
+    for position in (0, 1, 2**64 - 1):
+        t.open(image.key[2], "0 2")
+        t.given(f"position {position}")
+        t.release(1, 3, "0 0")
+        t.starts(1)
+        t.release(1, 3, "25")
+    t.given(f"tape {tape_words}")
+    t.given("position 0")
+
+
+def releases_and_claims(t, image):
+    """A full device, and claims of what was given back."""
+    key = image.key
+    fresh = [small_text(volume, 99, "fifth") for volume in range(3)]
+    t.say("A full device: 22, a release, and the next claim takes the slice. The start place is 4, then that slice's place.")
+    t.open(key[2], "0 2")
+    t.write(0, 0, fresh[0], "0 claimed 1 1")
+    t.write(2, 15, fresh[2], "22 0")
+    t.starts(4)
+    t.release(1, 3, "0 0")
+    t.starts(1)
+    t.write(2, 15, fresh[2], "0 claimed 0 1")
+    t.starts(2)
+    t.reads((2, 12, None), (2, 13, None), (2, 14, None), (2, 15, fresh[2]), (1, 13, None), (1, 15, None), (0, 0, fresh[0]))
+    t.find(2, 15, "1024 35840")
+    t.find(1, 13, "0")
+    t.say("The places behind it are held and looked at, once.")
+    t.write(1, 12, fresh[1], "22 2")
+    t.starts(4)
+    t.write(1, 12, fresh[1], "22 0")
+    t.say("Two releases, and the held places before and between: the lower place is taken first.")
+    t.release(2, 0, "0 3")
+    t.starts(2)
+    t.release(0, 1, "0 2")
+    t.starts(0)
+    t.write(1, 12, fresh[1], "0 claimed 2 1")
+    t.starts(1)
+    t.write(0, 4, fresh[0], "0 claimed 3 2")
+    t.starts(3)
+    t.reads((1, 12, fresh[1]), (1, 13, None), (1, 14, None), (1, 15, None), (0, 4, fresh[0]), (0, 7, None), (2, 0, None))
+    t.write(2, 0, fresh[2], "22 1")
+    t.starts(4)
+
+    t.say("Claims of the slice by the same volume, at the same logical slice and at another, and by other volumes: zeros but for",
+          "the block asked for.")
+    t.given(SMALL_WHOLE)
+    t.given("position 0")
+    t.open(key[2], "0 2")
+    logical, owner = 1, 0
+    for volume, address in ((0, 5), (0, 14), (2, 7), (1, 0), (0, 4)):
+        t.release(owner, logical, "0 2")
+        t.starts(0)
+        t.reads(*((owner, 4 * logical + j, None) for j in range(4)))
+        t.given("position 0")
+        t.write(volume, address, fresh[volume], "0 claimed 2 1")
+        t.starts(1)
+        owner, logical = volume, address // 4
+        for block in range(4 * logical, 4 * logical + 4):
+            t.reads((volume, block, fresh[volume] if block == address else None))
+        t.reads((1, 13, small_text(1, 13)), (2, 3, small_text(2, 3)))
+    t.say("A rewrite in it, and a release of the rewritten slice.")
+    t.write(0, 7, fresh[1], "0 rewritten 2 0")
+    t.release(0, 1, "0 2")
+    t.reads((0, 4, None), (0, 7, None))
+    t.say("A block of a slice that was given back is no rewrite: the claim is refused by 21 where 16 bytes are left.")
+    t.given("position 5104")
+    t.write(0, 7, fresh[1], "21 1")
+    t.starts(0)
+
+    t.say("The counts add up to 16 with three releases: P times one more than these. The claims are handed another permutation",
+          "than the opening and the releases.")
+    t.given(SMALL_WHOLE)
+    t.given("permutation 1 2 0 3")
+    t.open(key[2], "0 2")
+    t.starts(0)
+    for n in range(4):
+        t.given("position 0")
+        t.given("permutation 2 0 3 1")
+        t.write(0, 0, fresh[0], "0 claimed 1 4")
+        t.starts(4)
+        t.given("permutation 1 2 0 3")
+        if n < 3:
+            t.release(0, 0, "0 1")
+            t.starts(0)
+
+
+def releases_and_permutations(t, image):
+    """Another permutation than at the opening."""
+    fresh = [small_text(volume, 99, "fifth") for volume in range(3)]
+    t.say("Another permutation than the opening's: the slice's place is the one in it.")
+    t.given(SMALL_WHOLE)
+    t.given("position 0")
+    for permutation, places in (("1 3 0 2", (3, 2, 1)), ("3 1 2 0", (2, 3, 0)), ("0 1 3 2", (3, 0, 2)), ("1 2 3 0", (1, 3, 2))):
+        for volume, place in enumerate(places):
+            t.given("permutation 2 0 3 1")
+            t.open(image.key[2], "0 2")
+            t.starts(3)
+            t.given(f"permutation {permutation}")
+            t.release(volume, SMALL_MAPPED[volume][0], f"0 {SMALL_MAPPED[volume][1]}")
+            t.starts(place)
+    t.say("Claims then look from there on in theirs: with the first permutation slices 2 and 0, at earlier places, are free and",
+          "not found, until a release names a lower place.")
+    t.given("permutation 2 0 3 1")
+    t.open(image.key[2], "0 2")
+    t.given("permutation 1 3 0 2")
+    t.release(0, 1, "0 2")
+    t.starts(3)
+    t.release(1, 3, "0 0")
+    t.starts(2)
+    t.given("permutation 2 0 3 1")
+    t.write(0, 0, fresh[0], "0 claimed 1 2")
+    t.starts(4)
+    t.write(0, 8, fresh[0], "22 0")
+    t.given("permutation 3 2 0 1")
+    t.release(2, 0, "0 3")
+    t.starts(0)
+    t.write(2, 4, fresh[2], "0 claimed 3 1")
+    t.write(0, 8, fresh[0], "0 claimed 2 1")
+    t.write(1, 8, fresh[1], "0 claimed 0 1")
+    t.starts(3)
+    t.write(1, 0, fresh[1], "22 1")
+    t.reads((0, 0, fresh[0]), (0, 8, fresh[0]), (1, 8, fresh[1]), (2, 4, fresh[2]), (2, 0, None), (0, 4, None), (1, 13, None))
+    t.say("A write takes permutations that a release refuses: a slice twice, a number that is none.")
+    t.given("permutation 2 0 3 1")
+    t.release(1, 2, "0 0")
+    t.starts(1)
+    for permutation in ("0 0 3 1", "2 0 3 4", "4 0 4 4"):
+        t.given(f"permutation {permutation}")
+        t.release(0, 2, "5")
+        t.release(1, 2, "5")
+        t.starts(1)
+    t.given("position 0")
+    t.write(1, 3, fresh[1], "0 claimed 0 1")
+    t.starts(2)
+
+
+def releases_of_other_tables(t, image):
+    """Tables that no opening gave."""
+    t.say("The owner byte becomes 0 whatever it was, and no other does.")
+    t.given(SMALL_WHOLE)
+    t.given("permutation 2 0 3 1")
+    t.open(image.key[2], "0 2")
+    for owner in (1, 0, 2, 3, 4, 15, 16, 128, 255):
+        for line in ("entry 0 1 2", f"owners 255 9 {owner} 1", "start 4"):
+            t.given(line)
+        t.release(0, 1, "0 2")
+        t.starts(0)
+    t.given("owners 0 0 0 0")
+    t.release(1, 3, "0 0")
+    t.release(2, 0, "0 3")
+    t.say("An unmapped logical slice is 25, whatever the owners say.")
+    t.given("owners 1 1 1 1")
+    for volume in range(3):
+        for logical in range(4):
+            t.release(volume, logical, "25")
+
+    t.say("A slice that several entries name: the asked one alone becomes the mark.")
+    t.given("row 0 2 2 - 2")
+    t.given("row 1 2 - - 0")
+    t.given("owners 2 0 1 0")
+    t.given("start 4")
+    t.release(0, 1, "0 2")
+    t.starts(0)
+    t.reads((0, 5, None), (0, 0, small_text(0, 4)), (0, 15, small_text(0, 7)), (1, 13, small_text(1, 13)))
+    t.find(1, 0, "1024 43008")
+    for volume, logical in ((0, 3), (1, 0), (0, 0)):
+        t.release(volume, logical, "0 2")
+    t.find(1, 0, "0")
+    t.reads((0, 0, None), (0, 15, None), (1, 13, small_text(1, 13)))
+
+    t.say("Bad entries elsewhere, in the same row and in others, are no matter, nor is what rows above k hold.")
+    for bad in (4, 5, MARK - 1):
+        t.open(image.key[1], "0 1")
+        for line in (f"row 0 {bad} 2 {bad} {bad}", f"row 1 {bad} {bad} {bad} 0", f"row 2 {bad} 2 0 3", f"row 14 {bad} {bad} 2 0"):
+            t.given(line)
+        t.release(0, 1, "0 2")
+        t.starts(0)
+        t.release(1, 3, "0 0")
+        for volume, logical in ((0, 0), (0, 2), (0, 3), (1, 0), (1, 1), (1, 2)):
+            t.release(volume, logical, "9")
+        t.release(0, 1, "25")
+        for logical in range(4):
+            t.release(2, logical, "11")
+        t.release(14, 2, "11")
+    t.say("Any slice below P may be asked for: each of them in turn, with each place.")
+    t.given("maps 60 -")
+    for psi, place in ((0, 1), (1, 3), (2, 0), (3, 2)):
+        t.given(f"entry 1 {3 - psi} {psi}")
+        t.given("owners 2 2 2 2")
+        t.given("start 4")
+        t.release(1, 3 - psi, f"0 {psi}")
+        t.starts(place)
+    t.say("A session with keys above k, with no key at all, with all 15 volumes.")
+    all_keys = words(vek.hex() for vek in image.vek)
+    for session, volume, above in ((f"session 1024 4 4 1 1 4 4,4 {all_keys}", 1, 2), ("session 1024 4 4 14 1 4 4*15", 14, 15),
+                                   (f"session 1024 4 4 7 1 4 4*8 {all_keys}", 7, 8)):
+        t.given("maps 60 -")
+        t.given(session)
+        t.given(f"entry {volume} 3 1")
+        t.given("owners 1 8 1 1")
+        t.release(above, 3, "11")
+        t.release(volume - 1, 3, "25")
+        t.release(volume, 3, "0 1")
+        t.starts(3)
+    t.say("20 by one thing alone: the session is closed, or its k is above 14.")
+    t.given("entry 0 1 2")
+    t.given("owners 1 8 1 1")
+    for k, is_open in ((7, 0), (14, 0), (15, 1), (16, 1), (255, 1), (256, 1), (2**32, 1), (2**32 + 7, 1), (2**63, 1),
+                       (2**64 - 1, 1)):
+        t.given(f"session 1024 4 4 {k} {is_open} 4 4*15 {all_keys}")
+        t.release(0, 1, "20")
+        t.release(15, 4, "20")
+    t.given(f"session 1024 4 4 14 1 4 4*15 {all_keys}")
+    t.release(0, 1, "0 2")
+    t.starts(0)
+
+
+def releases_and_closes(t, image):
+    """What the next opening finds."""
+    key = image.key
+    fresh = [small_text(volume, 99, "fifth") for volume in range(3)]
+    t.say("A release without a close is lost: the next opening finds entry and owner as before, and the old texts.")
+    t.given(SMALL_WHOLE)
+    t.given("position 0")
+    t.open(key[2], "0 2")
+    t.release(0, 1, "0 2")
+    t.reads((0, 4, None))
+    t.open(key[2], "0 2")
+    t.starts(3)
+    t.reads(*small_blocks(0, 1, 2))
+    t.say("With a claim of the slice between, the old entry leads to what the claim stored under another key.")
+    t.release(0, 1, "0 2")
+    t.write(2, 6, fresh[2], "0 claimed 2 1")
+    t.open(key[2], "0 2")
+    t.read(0, 6, "0")
+    t.find(0, 6, "1024 45056")
+    t.reads((2, 6, None))
+
+    t.say("Releases and a close: the maps on the device are without the slices, for every key, and the slices are free.")
+    t.given(SMALL_WHOLE)
+    t.given("position 0")
+    t.open(key[2], "0 2")
+    t.release(0, 1, "0 2")
+    t.release(2, 0, "0 3")
+    t.starts(0)
+    t.close("0")
+    t.starts(0)
+    t.release(1, 3, "20")
+    for k in range(3):
+        t.open(key[k], f"0 {k}")
+        t.starts(0)
+        t.reads(*((0, address, None) for address in range(3, 9)))
+        t.release(0, 1, "25")
+    t.reads(*((2, address, None) for address in range(4)), *small_blocks(1))
+    t.given("permutation 0 3 1 2")
+    t.open(key[2], "0 2")
+    t.starts(1)
+    t.say("Claims of them, a close, and the next opening.")
+    t.write(1, 0, fresh[1], "0 claimed 3 1")
+    t.write(0, 5, fresh[0], "0 claimed 1 1")
+    t.release(1, 3, "0 0")
+    t.starts(0)
+    t.write(2, 3, fresh[2], "0 claimed 0 1")
+    t.write(2, 4, fresh[2], "0 claimed 2 3")
+    t.starts(4)
+    t.close("0")
+    t.open(key[2], "0 2")
+    t.starts(4)
+    t.reads((1, 0, fresh[1]), (1, 1, None), (1, 13, None), (0, 4, None), (0, 5, fresh[0]), (2, 3, fresh[2]), (2, 2, None),
+            (2, 4, fresh[2]), (2, 7, None))
+    t.say("Everything given back, and a close: all volumes are zeros for each key.")
+    for volume, logical, psi in ((1, 0, 3), (0, 1, 1), (2, 0, 0), (2, 1, 2)):
+        t.release(volume, logical, f"0 {psi}")
+    t.close("0")
+    for k in range(3):
+        t.open(key[k], f"0 {k}")
+        t.starts(0)
+        t.reads(*((volume, address, None) for volume in range(k + 1) for address in (0, 4, 5, 13)))
+
+    t.say("Key 0 gives its slice back and closes: volumes 1 and 2 stand as they stood. Then it claims what volume 2 holds.")
+    t.given(SMALL_WHOLE)
+    t.given("position 0")
+    t.given("permutation 2 0 3 1")
+    t.open(key[0], "0 0")
+    t.starts(1)
+    t.release(0, 1, "0 2")
+    t.starts(0)
+    t.close("0")
+    t.open(key[2], "0 2")
+    t.starts(0)
+    t.reads((0, 4, None), (0, 7, None), *small_blocks(1, 2))
+    t.given("permutation 3 2 0 1")
+    t.open(key[0], "0 0")
+    t.write(0, 8, fresh[0], "0 claimed 3 1")
+    t.close("0")
+    t.open(key[2], "10")
+    t.say("Once key 0 has given it back again, key 2 opens: the entry of volume 2 leads to what volume 0 stored.")
+    t.open(key[0], "0 0")
+    t.release(0, 2, "0 3")
+    t.starts(0)
+    t.close("0")
+    t.open(key[2], "0 2")
+    t.find(2, 0, "1024 48128")
+    t.read(2, 0, "0")
+    t.release(2, 0, "0 3")
+    t.reads((2, 0, None), *small_blocks(1))
+
+
+def releases_below_the_counts(t, image):
+    """Volumes of their own length, P 7."""
+    key, whole, some = image.key, COUNTED_WHOLE, SOME_COUNTED
+    mapped = ((0, 1, 0, 2), (0, 4, 6, 1), (1, 0, 3, 0), (2, 6, 5, 2), (3, 2, 1, 2))
+    t.say("Volumes of their own length: volumes 0 to 3 have 5, 1, 7 and 3 logical slices, of 3 blocks, on a device of 7 slices.",
+          "Each mapped one: the start place is 2, and stays so where the slice's place is higher.")
+    t.lend("counts.img", COUNTED, COUNTED_PERMUTATION, tape("releases", 5120), 0)
+    for volume, logical, psi, place in mapped:
+        t.open(key[3], "0 3")
+        t.starts(2)
+        t.release(volume, logical, f"0 {psi}")
+        t.starts(place)
+        t.holds(5, 1, 7, 3)
+        t.reads(*((volume, 3 * logical + j, None) for j in range(3)))
+        t.find(volume, 3 * logical, "0")
+        t.reads(*((v, a, counted_text(v, a)) for v, a in COUNTED_BLOCKS if (v, a // 3) != (volume, logical)))
+        t.image("counts.img")
+    t.say("All of them, one after the other.")
+    t.open(key[3], "0 3")
+    for (volume, logical, psi, _), place in zip(reversed(mapped), (2, 2, 0, 0, 0)):
+        t.release(volume, logical, f"0 {psi}")
+        t.starts(place)
+    t.reads(*((volume, last, None) for volume, last in enumerate(LAST)))
+
+    t.say("12: at the volume's own count and above, whatever stands there: a slice, a number that is none, the mark. 11 comes",
+          "before it, where the count is 0.")
+    t.open(key[3], "0 3")
+    for line in ("entry 0 5 2", "entry 0 6 7", "entry 1 1 4", "entry 1 6 4294967294", "entry 3 3 4", "entry 3 6 8"):
+        t.given(line)
+    for volume, N in enumerate(COUNTS):
+        for logical in (N, N + 1, 3 * N, 6, 7, 8, 14, 21, 2**32, 2**32 + N - 1, 2**63, 2**64 - 1):
+            if logical >= N:
+                t.release(volume, logical, "12")
+    for volume in (4, 5, 14):
+        for logical in (0, 2, 7):
+            t.release(volume, logical, "11")
+    t.say("25 and served below it.")
+    for volume, logical in ((0, 0), (0, 2), (0, 3), (2, 0), (2, 5), (3, 0), (3, 1)):
+        t.release(volume, logical, "25")
+    t.starts(2)
+    for volume, logical, psi, _ in mapped:
+        t.release(volume, logical, f"0 {psi}")
+    t.starts(0)
+
+    t.say("Counts that the caller lowers or raises: a release goes by what the session holds.")
+    t.open(key[3], "0 3")
+    for N in (1, 2, 4):
+        t.given(f"count 0 {N}")
+        t.release(0, 4, "12")
+    t.given("count 0 2")
+    t.release(0, 1, "0 0")
+    t.release(0, 2, "12")
+    t.close("9")
+    t.given("count 0 5")
+    t.release(0, 4, "0 6")
+    t.starts(1)
+    t.given("entry 1 6 4")
+    t.release(1, 6, "12")
+    t.given("count 1 7")
+    t.release(1, 6, "0 4")
+    t.release(1, 5, "25")
+    t.starts(1)
+    t.holds(5, 7, 7, 3)
+    t.say("With that entry given back, the next opening is served.")
+    t.close("0")
+    t.open(key[3], "0 3")
+    t.holds(5, 1, 7, 3)
+    t.starts(1)
+    t.reads((0, 3, None), (0, 14, None), *LAST_TEXTS[1:])
+    t.given("position 0")
+    t.write(0, 14, some, "0 claimed 6 1")
+    t.write(3, 0, some, "0 claimed 2 1")
+    t.write(3, 3, some, "0 claimed 0 1")
+    t.write(2, 0, some, "0 claimed 4 2")
+    t.write(2, 3, some, "22 1")
+    t.release(3, 2, "0 1")
+    t.starts(6)
+    t.write(2, 3, some, "0 claimed 1 1")
+    t.starts(7)
+    t.reads((2, 3, some), (2, 4, None), (2, 5, None), (3, 6, None), (3, 8, None))
+
+    t.say("20 by a count of 0 or above P in a row up to k, whatever volume is asked for; before 2, 4, 5, 11 and 12.")
+    t.given(whole)
+    for k in (0, 1, 3):
+        t.open(key[k], f"0 {k}")
+        for row in range(k + 1):
+            for count in (0, 8, 2**32 + COUNTS[row], 2**64 - 1):
+                t.given(f"count {row} {count}")
+                for volume, logical in ((0, 1), (k, COUNTS[k] - 1), (0, 0), (k + 1, 0), (0, 2**64 - 1)):
+                    t.release(volume, logical, "20")
+            t.given(f"count {row} {COUNTS[row]}")
+        t.release(k, COUNTS[k] - 1, f"0 {(6, 3, 5, 1)[k]}")
+    t.say("Above k any count is allowed, and stays.")
+    t.open(key[1], "0 1")
+    for row in range(2, VOLUMES):
+        t.given(f"count {row} {(2**64 - 1, 8, 0)[row % 3]}")
+    t.release(2, 6, "11")
+    t.release(0, 1, "0 0")
+    t.release(1, 0, "0 3")
+    t.starts(0)
+    t.holds(5, 1, *((2**64 - 1, 8, 0)[row % 3] for row in range(2, VOLUMES)))
+    t.say("All at once; then one refusal less each time.")
+    served = f"session 1024 3 7 1 1 2 5,1 {words(vek.hex() for vek in image.vek[:2])}"
+    for line in ("device counts.img 60415", "maps 104 9", "owners 1 5 0 2 0 4", "permutation 3 6 2 0 5 4 4",
+                 served.replace(" 5,1 ", " 5,8 ")):
+        t.given(line)
+    for line, volume, logical, answer in (
+        ("position 0", 9, 9, "20"), (served, 9, 9, "2"), (whole, 9, 9, "4"), ("maps 105 9", 9, 9, "4"),
+        ("owners 1 5 0 2 0 4 1", 9, 9, "5"), (f"permutation {words(COUNTED_PERMUTATION)}", 9, 9, "11"),
+        ("position 1", 0, 9, "12"), ("position 2", 0, 5, "12"), ("position 3", 0, 4, "9"), ("entry 0 4 -", 0, 4, "25"),
+        ("entry 0 4 6", 0, 4, "0 6"),
+    ):
+        t.given(line)
+        t.release(volume, logical, answer)
+    t.starts(1)
+
+
+def releases_of_two_maps(t):
+    """Two map blocks, and places above 255."""
+    g = Geometry(1024, 1, 257)
+    image = Image("two-maps.img", g)
+    some = text("releases, two maps", g.B)
+    down, up = words(range(256, -1, -1)), words(range(257))
+    t.say("Two map blocks: entries 0 to 251 in the first, 252 to 256 in the second. Slice n is at place 256 - n. The start place",
+          "is 2, that of slice 254.")
+    t.lend("two-maps.img", g, range(256, -1, -1), "two-maps.img 60000 8192")
+    t.open(image.key[1], "0 1")
+    t.starts(2)
+    for volume, logical, psi, place in ((0, 256, 252, 2), (0, 0, 0, 2), (1, 253, 255, 1), (0, 252, 256, 0), (1, 1, 1, 0)):
+        t.release(volume, logical, f"0 {psi}")
+        t.starts(place)
+        t.reads((volume, logical, None))
+        t.find(volume, logical, "0")
+    for volume, logical, answer in ((0, 256, "25"), (0, 257, "12"), (0, 258, "12"), (1, 0, "25"), (1, 252, "25"), (1, 257, "12"),
+                                    (0, 2**32 + 250, "12"), (2, 253, "11")):
+        t.release(volume, logical, answer)
+    t.image("two-maps.img")
+    t.say("5: one place short, one too long, and a fault at the last place alone, with the asked slice there or elsewhere.")
+    for permutation in (words(range(256)), words(range(1, 257)), f"{up} 0", f"{up} 257", f"{words(range(256))} 255",
+                        f"{words(range(256))} 0", f"{words(range(256))} 257", f"{words(range(256))} 4294967295",
+                        f"{words(range(1, 257))} 256"):
+        t.given(f"permutation {permutation}")
+        t.release(0, 250, "5")
+        t.release(1, 249, "5")
+        t.release(2, 257, "5")
+    t.say("Slice n at place n: the start place falls from 257 to places above 255 and below.")
+    t.given(f"permutation {up}")
+    t.given(f"owners {words([9] * 257)}")
+    t.given("start 1")
+    t.write(1, 5, some, "22 256")
+    t.starts(257)
+    t.given("entry 0 252 256")
+    t.release(0, 252, "0 256")
+    t.starts(256)
+    t.given("entry 1 253 255")
+    t.release(1, 253, "0 255")
+    t.starts(255)
+    t.release(1, 249, "0 253")
+    t.starts(253)
+    t.release(0, 250, "0 251")
+    t.starts(251)
+    t.say("Claims of them, across the edge of the map blocks; the held place between is looked at.")
+    t.write(1, 251, some, "0 claimed 251 1")
+    t.starts(252)
+    t.write(1, 252, some, "0 claimed 253 2")
+    t.starts(254)
+    t.reads((1, 251, some), (1, 252, some), (0, 250, None), (1, 249, None))
+    t.say("The close writes both map blocks of both volumes, and the next opening finds what was given back free.")
+    t.close("0")
+    t.open(image.key[1], "0 1")
+    t.starts(0)
+    t.reads((1, 251, some), (1, 252, some), (0, 0, None), (0, 250, None), (0, 252, None), (0, 256, None), (1, 1, None),
+            (1, 249, None), (1, 253, None))
+    t.release(1, 252, "0 253")
+    t.release(1, 252, "25")
+    t.starts(0)
+
+
+def releases_of_other_sizes(t):
+    """Blocks of 4,096 bytes and all 15 volumes; one slice of 64 blocks."""
+    g = Geometry(4096, 2, 4)
+    image = Image("fifteen.img", g)
+    some = text("releases, fifteen", g.B)
+    t.say("Blocks of 4,096 bytes and all 15 volumes, with slice 2 free.")
+    t.lend("fifteen.img", g, [3, 1, 0, 2], "two-maps.img 60000 8192")
+    t.open(image.key[14], "0 14")
+    t.starts(3)
+    for volume in range(VOLUMES):
+        for logical in range(5):
+            if (volume, logical) not in ((0, 3), (9, 2), (14, 0)):
+                t.release(volume, logical, "25" if logical < 4 else "12")
+    t.release(15, 0, "11")
+    t.release(0, 3, "0 0")
+    t.starts(2)
+    t.release(9, 2, "0 1")
+    t.starts(1)
+    t.reads((0, 6, None), (0, 7, None), (9, 4, None), (9, 5, None))
+    t.reads(*((14, address, text(f"fifteen, block {address} of volume 14", g.B)) for address in (0, 1)))
+    t.release(14, 0, "0 3")
+    t.starts(0)
+    t.image("fifteen.img")
+    t.write(8, 5, some, "0 claimed 3 1")
+    t.reads((8, 4, None), (8, 5, some), (14, 0, None), (14, 1, None))
+    t.close("0")
+    t.open(image.key[14], "0 14")
+    t.starts(1)
+    t.reads((8, 5, some), (0, 6, None), (9, 5, None), (14, 1, None))
+
+    t.say("One slice of 64 blocks: given back by volume 1, claimed by volume 0.")
+    g = Geometry(1024, 64, 1)
+    image = Image("widest.img", g)
+    claimed = text("widest, block 63 of volume 0", g.B)
+    t.lend("widest.img", g, [0], tape("widest", 1056, at_0=FF16, at_1024=FF16), 16)
+    t.open(image.key[1], "0 1")
+    t.starts(1)
+    t.write(0, 63, claimed, "22 0")
+    t.release(0, 0, "25")
+    t.release(1, 1, "12")
+    t.release(1, 0, "0 0")
+    t.starts(0)
+    t.reads(*((1, address, None) for address in (0, 1, 31, 62, 63)))
+    t.find(1, 63, "0")
+    t.image("widest.img")
+    t.write(0, 63, claimed, "0 claimed 0 1")
+    t.starts(1)
+    t.reads((0, 0, None), (0, 62, None), (0, 63, claimed), (1, 0, None))
+    t.release(1, 0, "25")
+    for permutation in ("", " 1", " 0 0", " 4294967295"):
+        t.given(f"permutation{permutation}")
+        t.release(0, 0, "5")
+    t.given("permutation 0")
+    t.release(0, 0, "0 0")
+    t.starts(0)
+    t.reads((0, 63, None))
+
+
 def make():
     check_layout()
     FILES["texts.bin"] = bytes(4096)  # zeros first: what an unmapped block reads as
@@ -3349,6 +4035,7 @@ def make():
     start_places()
     counts()
     format_counts()
+    releases()
 
 
 def main():
