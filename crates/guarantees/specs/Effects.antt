@@ -46,8 +46,9 @@ lowered s place = withStart s (min (s .start) place)
 -- A rewrite draws 16 tape bytes. A claim draws B, sets its entry and its owner, and moves the start place past the places that it
 -- looked at, to the claimed place plus one; a 22 moves it in the same way, to P (`Sets` in StartPlaces; document 02, P2). No other
 -- refusal changes anything. A release draws nothing: its entry becomes the mark, the owner of the slice freed 0, and the start place the
--- lower of itself and that slice's place in the permutation (`Lowers` in StartPlaces; document 02, P5). A close draws 16 for each map block and leaves marks, owners and keys 0, and a closed session with its
--- geometry, k, start place and counts (document 02, P4). Nothing else changes what is held.
+-- lower of itself and that slice's place in the permutation (`Lowers` in StartPlaces; document 02, P5). A close draws 16 for each map
+-- block and leaves marks, owners and keys 0, and a closed session with its geometry, k, start place and counts (document 02, P4). Nothing
+-- else changes what is held.
 unfoldable pub heldAfter : Held → Event → Held
 heldAfter h (Writes i a text perm tape (WriteResult.Served (Rewritten ψ) probes)) =
     record { maps = h .maps; owners = h .owners; position = h .position + 16; session = h .session }
@@ -115,7 +116,7 @@ mapsStored h ivs (suc n) =
 
 -- A rewrite stores the 16 bytes drawn as the block's IV, and the ciphertext over the old block. A claim stores the B bytes drawn as
 -- the IV block, and S data blocks, each enciphered under its own IV: zeros but for the block asked for. A close stores the maps of
--- volumes 0 to k. Nothing else stores a byte, and a release does not.
+-- volumes 0 to k. A release stores nothing, and nor does anything else.
 unfoldable pub storedBy : Held → Event → List Patch
 storedBy h (Writes i a text perm tape (WriteResult.Served (Rewritten ψ) probes)) =
     record { at = ivStart (geometry h) ψ (offsetOf (geometry h) a); bytes = drawn h tape 16 }

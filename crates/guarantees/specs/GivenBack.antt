@@ -26,7 +26,7 @@ pub record GivenBack (st : State) (i σ : ℕ) (perm : List ℕ) (ψ : ℕ) : Ty
   pub stays : next st (Releasing i σ perm) .device ≡ st .device
   -- Each block of the logical slice reads as zeros.
   pub zeros : (j : ℕ) → j < geometry (st .held) .s → ReadsZeros (next st (Releasing i σ perm)) i (σ * geometry (st .held) .s + j)
-  -- The slice has no owner, and while the permutation passes on a claim finds room: no write is refused by 22.
+  -- The slice has no owner, and a write that comes next, handed the same permutation, finds room: it is not refused by 22.
   pub free : getD (next st (Releasing i σ perm) .held .owners) ψ 0 ≡ 0
   pub room : (v a : ℕ) (text tape : List ℕ) (probes : ℕ)
       → outcome (next st (Releasing i σ perm)) (Writing v a text perm tape) .answer ≡ Writes v a text perm tape (WriteResult.Refused 22 probes) → ⊥

@@ -25,7 +25,8 @@ badPermutation p perm rest =
     (refuse (missing p perm) 5
     rest)
 
--- The place of slice ψ: the first that names it (document 02, P5). One that names each slice once has no other.
+-- The place of slice ψ: the first that names it, the number of places where none does (document 02, P5). A permutation that names each
+-- slice once names it at no other.
 unfoldable pub placeOf : (ψ : ℕ) → (perm : List ℕ) → ℕ
 placeOf ψ [] = 0
 placeOf ψ (φ ∷ perm) = choose (eqb φ ψ) 0 (suc (placeOf ψ perm))
