@@ -262,11 +262,11 @@ module _ (first : State) (device : List ℕ) (h : Held) (i σ : ℕ) (perm : Lis
     abbrev after : Outcome ReleaseResult
     after = released h i σ ψ (placeOf ψ perm)
 
-    at-first : Open first arrays (record { device = device; held = h })
-    at-first = kept (w .stands .usable .opened)
+    before : Open first arrays (record { device = device; held = h })
+    before = kept (w .stands .usable .opened)
 
     same-geometry : geometry h ≡ geometry (first .held)
-    same-geometry = ap (λ (s : Session). s .geometry) (at-first .session)
+    same-geometry = ap (λ (s : Session). s .geometry) (before .session)
 
     clears : (j b : ℕ) → OpenVolume h j → b < blockCount (h .session) j
         → cleared (geometry h) arrays i σ j b ≡ arraysOf (left device after) j b
@@ -276,7 +276,7 @@ module _ (first : State) (device : List ℕ) (h : Held) (i σ : ℕ) (perm : Lis
         (λ c. rw (eq-eqb j i (c .0), eq-eqb (sliceOf (geometry h) b) σ (c .1))
         (sym (deciphered-unmapped (geometry h) (keyOf (h .session) j) _ (offsetOf (geometry h) b) device
         (rw (c .2) (omega (arith, w .stands .usable .allowed .slices-most))))))
-        (λ c. other (c .0) ∙ at-first .holds j b oj hb
+        (λ c. other (c .0) ∙ before .holds j b oj hb
         ∙ ap (λ (x : ℕ). deciphered (geometry h) (keyOf (h .session) j) x (offsetOf (geometry h) b) device) (sym (c .1)))
         (released-cases (length device) h i σ perm w j (sliceOf (geometry h) b) (omega (arith, asked-slice (w .stands) oj hb)))
       where
@@ -289,9 +289,9 @@ module _ (first : State) (device : List ℕ) (h : Held) (i σ : ℕ) (perm : Lis
     releases live =
         record {
           stands = released-stands (length device) h i σ perm w;
-          sound = released-sound (length device) h i σ perm w (at-first .sound);
-          session = ap (startingAt _) (at-first .session);
-          header = at-first .header;
+          sound = released-sound (length device) h i σ perm w (before .sound);
+          session = ap (startingAt _) (before .session);
+          header = before .header;
           holds = λ j b oj hb. subst (λ (g′ : Geometry). cleared g′ arrays i σ j b ≡ arraysOf (left device after) j b) same-geometry (clears j b oj hb);
         }
 
