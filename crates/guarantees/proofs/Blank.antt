@@ -17,7 +17,7 @@ use Rattle.model.specs.Session.{keyIn, keyOf, countOf, blockCount, sliceOf, off
 use Rattle.model.specs.Conditions.{CountFits, Counted, TablesFit, Enough, Names}
 use Rattle.model.specs.Opening.{At, openCell, firstCell, openHeader, Chain, Keys, link, chain, storedEntry, Tables, loadMaps, noMaps, noOwners}
 use Rattle.model.specs.Opening.{sliceCount, allKeys, allCounts, OpenOutcome}
-use Rattle.model.specs.Format.{FormatResult, Formatted}
+use Rattle.model.specs.Session.{LentResult}
 use Rattle.model.specs.Theorems.{HeaderText}
 use Rattle.model.proofs.Parts.{part-length, part-left, part-split, joined-length, joined-part}
 use Rattle.model.proofs.Bounds.{s-small, perBlock-least, mapBlock-of, sliceOf-lt}
@@ -66,8 +66,8 @@ formatRules-none device g n keys counts tape position f =
     )
 
 -- A served formatting has made a stick.
-answered-made : {device : ℕ} {g : Geometry} {n : ℕ} {keys counts tape : List ℕ} {position : ℕ} {r : FormatResult}
-    → FormatAnswered device g n keys counts tape position r → (made : List ℕ) (after : ℕ) → r ≡ Formatted made after
+answered-made : {device : ℕ} {g : Geometry} {n : ℕ} {keys counts tape : List ℕ} {position : ℕ} {r : LentResult}
+    → FormatAnswered device g n keys counts tape position r → (made : List ℕ) (after : ℕ) → r ≡ LentResult.Served made after
     → Stick g n keys counts made
 answered-made (handed-wrong r ne f) made after e = let z : _≡_ {A = ℕ} 0 1 = cc in absurd (omega arith)
 answered-made (lower-cell f d i j vmk j<i i<n o) made after e = let z : _≡_ {A = ℕ} 0 1 = cc in absurd (omega arith)
@@ -297,14 +297,14 @@ module _ {g : Geometry} {n : ℕ} {keys counts tape : List ℕ} {position : ℕ}
         ),
       )
 
-  answered-right : {r : FormatResult} → FormatAnswered (deviceLength g) g n keys counts tape position r
-      → ((made : List ℕ) × (r ≡ Formatted made (position + formatTape g n))) ⊎ (r ≡ FormatResult.Refused 24)
+  answered-right : {r : LentResult} → FormatAnswered (deviceLength g) g n keys counts tape position r
+      → ((made : List ℕ) × (r ≡ LentResult.Served made (position + formatTape g n))) ⊎ (r ≡ LentResult.Refused 24)
   answered-right (handed-wrong r ne f) = absurd (ne (right-passes r f))
   answered-right (lower-cell f d i j vmk j<i i<n o) = inr refl
   answered-right (FormatAnswered.served f d lower made m) = inl (made, refl)
 
   answered-equal : (i j : ℕ) → j < i → i < n → keyIn keys i ≡ keyIn keys j
-      → {r : FormatResult} → FormatAnswered (deviceLength g) g n keys counts tape position r → r ≡ FormatResult.Refused 24
+      → {r : LentResult} → FormatAnswered (deviceLength g) g n keys counts tape position r → r ≡ LentResult.Refused 24
   answered-equal i j l h e (handed-wrong r ne f) = absurd (ne (right-passes r f))
   answered-equal i j l h e (lower-cell f d i′ j′ vmk j<i i<n o) = refl
   answered-equal i j l h e (FormatAnswered.served f d lower made m) =
@@ -312,8 +312,8 @@ module _ {g : Geometry} {n : ℕ} {keys counts tape : List ℕ} {position : ℕ}
 
 -- With one key no cell is below the first.
 answered-one : {g : Geometry} {key counts tape : List ℕ} {position : ℕ} → Right g 1 key counts tape position
-    → {r : FormatResult} → FormatAnswered (deviceLength g) g 1 key counts tape position r
-    → (made : List ℕ) × (r ≡ Formatted made (position + formatTape g 1))
+    → {r : LentResult} → FormatAnswered (deviceLength g) g 1 key counts tape position r
+    → (made : List ℕ) × (r ≡ LentResult.Served made (position + formatTape g 1))
 answered-one ok (handed-wrong r ne f) = absurd (ne (right-passes ok r f))
 answered-one ok (lower-cell f d i j vmk j<i i<1 o) = absurd (omega arith)
 answered-one ok (FormatAnswered.served f d lower made m) = (made, refl)

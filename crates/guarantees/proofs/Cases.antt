@@ -21,7 +21,7 @@ use Rattle.model.specs.Conditions.{Usable, TablesFit, Enough, Names, sliceAt}
 use Rattle.model.proofs.Requests as requests
 use Rattle.guarantees.specs.Rules.{heldEntry, tableEntry, askedRules, FreeAt, BadAt, NoneFree}
 use Rattle.guarantees.proofs.Reflects.{ltb-reflects, choose-reflects, choose-refutes}
-use Rattle.guarantees.proofs.Chains.{None, leads-unlisted}
+use Rattle.guarantees.proofs.Chains.{None, other, leads-barred}
 use Rattle.guarantees.proofs.Orders.{short-refutes, missing-names, earlyRules, write-leads}
 use Rattle.model.proofs.Permutations.{Placed, names-place}
 use Rattle.model.proofs.Searches.{Finds, firstFree-finds}
@@ -133,8 +133,8 @@ module _ (n : ℕ) (h : Held) (i a : ℕ) (text perm tape : List ℕ) where
   -- 22 is not among the refusals before the search.
   pub early-not-22 : writeRefusalOf n h i a (length text) (length perm) ≡ 22 → ⊥
   early-not-22 =
-      leads-unlisted (write-leads n h i a (length text) (length perm))
-      (omega arith, (omega arith, (omega arith, (omega arith, (omega arith, (omega arith, (omega arith, (omega arith, tt)))))))) (omega arith)
+      leads-barred (write-leads n h i a (length text) (length perm))
+      (other (omega arith), (other (omega arith), (other (omega arith), (other (omega arith), (other (omega arith), (other (omega arith), (other (omega arith), (other (omega arith), tt)))))))) (omega arith)
 
   -- The same where only what is stored and left matters: every refusal but 22 leaves what is held.
   pub write-stores : (P : Outcome WriteResult → Type 0)

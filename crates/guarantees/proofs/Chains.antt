@@ -56,16 +56,20 @@ pub none-leads : (rs : List Rule) {ss : List Rule} {n c : ℕ} → None rs → L
 none-leads [] k q = q
 none-leads (r ∷ rs) k q = later (k .0) (none-leads rs (k .1) q)
 
--- A number that no rule has.
-abbrev pub Unlisted : ℕ → List Rule → Type 0
-Unlisted m [] = Unit
-Unlisted m (r ∷ rs) = (m ≡ r .number → ⊥) × Unlisted m rs
+-- No rule that has the number holds.
+abbrev pub Barred : ℕ → List Rule → Type 0
+Barred m [] = Unit
+Barred m (r ∷ rs) = (m ≡ r .number → r .holds → ⊥) × Barred m rs
 
--- A refusal by the rules has the number of one of them.
-pub leads-unlisted : {rs : List Rule} {m n c : ℕ} → Leads rs n c → Unlisted m rs → (m ≡ 0 → ⊥) → n ≡ m → ⊥
-leads-unlisted (here a e d) k ne q = k .0 (sym q ∙ e)
-leads-unlisted (later f l) k ne q = leads-unlisted l (k .1) ne q
-leads-unlisted none k ne q = ne (sym q)
+-- A rule with another number.
+pub other : {m n : ℕ} {A : Type 0} → (m ≡ n → ⊥) → m ≡ n → A → ⊥
+other ne e a = ne e
+
+-- A refusal by the rules has the number of one that holds.
+pub leads-barred : {rs : List Rule} {m n c : ℕ} → Leads rs n c → Barred m rs → (m ≡ 0 → ⊥) → n ≡ m → ⊥
+leads-barred (here a e d) k ne q = k .0 (sym q ∙ e) a
+leads-barred (later f l) k ne q = leads-barred l (k .1) ne q
+leads-barred none k ne q = ne (sym q)
 
 -- ---- chains of tests
 

@@ -12,6 +12,7 @@ pub mod Claims
 pub mod Releases
 pub mod MapBlocks
 pub mod Making
+pub mod Shuffled
 pub mod Stored
 pub mod Unlocks
 pub mod Tables

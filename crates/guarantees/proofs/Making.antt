@@ -14,11 +14,11 @@ use Rattle.ctr.specs.CounterMode.{ctr}
 use Rattle.model.specs.declared.Geometry.{Geometry}
 use Rattle.model.specs.Parts.{part, joined, Patch, patched}
 use Rattle.model.specs.Geometry.{Allowed, countIn, mapBlocks, deviceLength, fourBytes, cellStart, headerStart, mapStart}
-use Rattle.model.specs.Session.{keyIn, unless}
+use Rattle.model.specs.Session.{LentResult, keyIn, unless}
 use Rattle.model.specs.Opening.{noMaps}
 use Rattle.model.specs.Close.{mapBlock}
 use Rattle.model.specs.Format.{headerIvAt, mapIvAt, formatNeed, sealed, madeCell, madeBelow, madeText, madeHeader, madeMap}
-use Rattle.model.specs.Format.{cellPatches, headerPatches, formatted, lowerRefusal, FormatResult, Formatted, formatModel}
+use Rattle.model.specs.Format.{cellPatches, headerPatches, formatted, lowerRefusal, formatModel}
 use Rattle.model.specs.Format as format
 use Rattle.model.specs.Conditions.{Enough}
 use Rattle.model.specs.Theorems.{Sealed}
@@ -275,10 +275,10 @@ format-answered device g n keys counts tape position =
     drawn : List ℕ
     drawn = part position (formatNeed g n) tape
 
-    answer : ℕ → FormatResult
-    answer r = unless r FormatResult.Refused (Formatted (formatted g n keys counts drawn) (position + formatNeed g n))
+    answer : ℕ → LentResult
+    answer r = unless r LentResult.Refused (LentResult.Served (formatted g n keys counts drawn) (position + formatNeed g n))
 
-    Answered : FormatResult → Type 0
+    Answered : LentResult → Type 0
     Answered = FormatAnswered device g n keys counts tape position
 
     refused : (r : ℕ) → (r ≡ 0 → ⊥) → First (formatRules device g n (length keys) counts (length tape) position) r 0 → Answered (answer r)

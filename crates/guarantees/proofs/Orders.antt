@@ -33,10 +33,10 @@ use Rattle.guarantees.proofs.Chains.{Comes, comes-map, comes-rest, come
 
 -- ---- the tests of the rows
 
-differ-guards : (n x y : ℕ) → Guards (refuse (not (eqb x y)) n) n (x ≡ y)
+pub differ-guards : (n x y : ℕ) → Guards (refuse (not (eqb x y)) n) n (x ≡ y)
 differ-guards n x y = refuse-guards n (not-refutes (eqb-reflects x y))
 
-badGeometry-guards : (n : ℕ) (g : Geometry) → Guards (badGeometry n g) n (Allowed g)
+pub badGeometry-guards : (n : ℕ) (g : Geometry) → Guards (badGeometry n g) n (Allowed g)
 unfolding badGeometry
 badGeometry-guards n g =
     guards-map

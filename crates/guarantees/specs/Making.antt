@@ -11,7 +11,7 @@ use Rattle.model.specs.Parts.{part, joined}
 use Rattle.model.specs.Geometry.{countIn, deviceLength, mapBlocks, fourBytes, cellStart, headerStart, mapStart}
 use Rattle.model.specs.Session.{keyIn}
 use Rattle.model.specs.Opening.{openCell}
-use Rattle.model.specs.Format.{FormatResult, Formatted}
+use Rattle.model.specs.Session.{LentResult}
 use Rattle.model.specs.Theorems.{Sealed}
 use Rattle.guarantees.specs.Runs.{Range, Within}
 use Rattle.guarantees.specs.Rules.{First, formatRules, formatTape}
@@ -81,15 +81,15 @@ cellMade keys d j =
 
 -- Refused by 1, 2, 23, 3 or 21, the first rule that applies; by 24 where a key opens a lower cell as it will stand; else the
 -- device is made, and the position is past the bytes drawn.
-pub data FormatAnswered (device : ℕ) (g : Geometry) (n : ℕ) (keys counts tape : List ℕ) (position : ℕ) : FormatResult → Type 0 where
+pub data FormatAnswered (device : ℕ) (g : Geometry) (n : ℕ) (keys counts tape : List ℕ) (position : ℕ) : LentResult → Type 0 where
   handed-wrong : (r : ℕ) → (r ≡ 0 → ⊥) → First (formatRules device g n (length keys) counts (length tape) position) r 0
-      → FormatAnswered device g n keys counts tape position (FormatResult.Refused r)
+      → FormatAnswered device g n keys counts tape position (LentResult.Refused r)
   lower-cell : First (formatRules device g n (length keys) counts (length tape) position) 0 0
       → (d : Draws g n (part position (formatTape g n) tape)) → (i j : ℕ) (vmk : List ℕ) → j < i → i < n
       → openCell (keyIn keys i) j (cellMade keys d j) ≡ Text vmk
-      → FormatAnswered device g n keys counts tape position (FormatResult.Refused 24)
+      → FormatAnswered device g n keys counts tape position (LentResult.Refused 24)
   served : First (formatRules device g n (length keys) counts (length tape) position) 0 0
       → (d : Draws g n (part position (formatTape g n) tape))
       → ((i j : ℕ) → j < i → i < n → openCell (keyIn keys i) j (cellMade keys d j) ≡ WrongTag)
       → (made : List ℕ) → Made g n keys counts (part position (formatTape g n) tape) d made
-      → FormatAnswered device g n keys counts tape position (Formatted made (position + formatTape g n))
+      → FormatAnswered device g n keys counts tape position (LentResult.Served made (position + formatTape g n))

@@ -1,5 +1,5 @@
 -- The three points (README.md, "What is proved"), as statements about the model. Assumes nothing.
-use Prim.Native.Nat.{ℕ, _+_, _*_, _≤_, _<_}
+use Prim.Native.Nat.{ℕ, _+_, _-_, _*_, _≤_, _<_}
 use mathlib.Core.Path.{_≡_}
 use mathlib.Core.Logic.{_⊎_}
 use mathlib.Core.List.{List, []}
@@ -11,16 +11,17 @@ use Rattle.model.specs.declared.Session.{Session}
 use Rattle.model.specs.declared.Change.the-variants.{Claimed, Rewritten}
 use Rattle.model.specs.Parts.{part, patched}
 use Rattle.model.specs.Geometry.{Allowed, countIn, deviceLength, cellOf, headerOf, sliceStart, sliceSize}
-use Rattle.model.specs.Session.{Held, held, geometry, keyIn, keyOf, countOf, entry, entryOf, sliceOf, offsetOf, unmapped}
-use Rattle.model.specs.Conditions.{CountFits, Counted, TablesFit, Enough, AllHeld, FirstFree, Names, sliceAt}
+use Rattle.model.specs.Session.{Held, held, LentResult, geometry, keyIn, keyOf, countOf, entry, entryOf, sliceOf, offsetOf, unmapped}
+use Rattle.model.specs.Conditions.{CountFits, Counted, TablesFit, Enough, AllHeld, FirstFree, Names, sliceAt, Shuffles, DrawnFrom}
 use Rattle.model.specs.Opening.{OpenOutcome, OpenTo, openModel, storedEntry}
 use Rattle.model.specs.Read.{ReadResult, Filled, readModel, findModel, deciphered}
 use Rattle.model.specs.Write.{WriteResult, writeModel}
 use Rattle.model.specs.Release.{ReleaseResult, releaseModel}
 use Rattle.model.specs.Close.{CloseResult, closeModel}
-use Rattle.model.specs.Format.{FormatResult, Formatted, formatModel}
+use Rattle.model.specs.Format.{formatModel}
+use Rattle.model.specs.Shuffle.{shuffleModel}
 use Rattle.guarantees.specs.Runs.{State, Call, Writing, Closing, Writes, Closes, outcome, next, final, events, positions, writtenByAll, Within}
-use Rattle.guarantees.specs.Rules.{First, readRules, writeRules, releaseRules, closeRules, formatTape, SearchEnds, FreeAt, probesAt}
+use Rattle.guarantees.specs.Rules.{First, readRules, writeRules, releaseRules, closeRules, formatTape, shuffleRules, SearchEnds, FreeAt, probesAt}
 use Rattle.guarantees.specs.Rules.{heldEntry, tableEntry, ivIn, blockIn}
 use Rattle.guarantees.specs.Openings.{Lowest, Unlocked, OpenAnswered}
 use Rattle.guarantees.specs.Making.{FormatAnswered}
@@ -72,6 +73,14 @@ pub data CloseAnswered (device : ℕ) (h : Held) (tape : List ℕ) : CloseResult
   served : First (closeRules device h (length tape)) 0 0 → CloseAnswered device h tape CloseResult.Closed
   refused : (n : ℕ) → (n ≡ 0 → ⊥) → First (closeRules device h (length tape)) n 0 → CloseAnswered device h tape (CloseResult.Refused n)
 
+-- A shuffle of a list of so many places is served with the ordering that its accepted draws make of the slices 0 to P - 1, and the
+-- position after the last byte of them, or refused by the first rule that applies. Draws that are thrown away have no other influence.
+pub data ShuffleAnswered (g : Geometry) (list : ℕ) (tape : List ℕ) (position : ℕ) : LentResult → Type 0 where
+  served : First (shuffleRules g list tape position) 0 0 → (accepted : List ℕ) (n : ℕ) → DrawnFrom tape position (g .p - 1) accepted n
+      → (perm : List ℕ) → Shuffles (g .p) accepted perm → ShuffleAnswered g list tape position (LentResult.Served perm (position + n))
+  refused : (r : ℕ) → (r ≡ 0 → ⊥) → First (shuffleRules g list tape position) r 0
+      → ShuffleAnswered g list tape position (LentResult.Refused r)
+
 pub record Point1 : Type 0 where
   -- The answer of each call, from any arguments; an opening with the tables and the session that it leaves.
   pub opens : (device : List ℕ) (g : Geometry) (key maps owners perm : List ℕ)
@@ -87,6 +96,8 @@ pub record Point1 : Type 0 where
   pub closes : (device : ℕ) (h : Held) (tape : List ℕ) → CloseAnswered device h tape (closeModel device h tape .answer)
   pub formats : (device : ℕ) (g : Geometry) (n : ℕ) (keys counts tape : List ℕ) (position : ℕ)
       → FormatAnswered device g n keys counts tape position (formatModel device g n keys counts tape position)
+  pub shuffles : (g : Geometry) (list : ℕ) (tape : List ℕ) (position : ℕ)
+      → ShuffleAnswered g list tape position (shuffleModel g list tape position)
   -- What each request stores and leaves, in any session, also one that no opening gave. Refused, it changes nothing, with one exception:
   -- a 22 moves the session's start place to P (document 02, P2).
   pub follows : (st : State) (c : Call) → Follows (st .held) (outcome st c)
@@ -235,7 +246,7 @@ pub record FormattedFor (made : List ℕ) (x : Handed) (l : Lent) (i : ℕ) : Ty
   pub tape : List ℕ
   pub position : ℕ
   pub after : ℕ
-  pub formatted : formatModel device (x .geometry) n keys counts tape position ≡ Formatted made after
+  pub formatted : formatModel device (x .geometry) n keys counts tape position ≡ LentResult.Served made after
   pub below : i < n
   pub key : x .key ≡ keyIn keys i
   pub names : Names (x .geometry .p) (x .perm)
@@ -263,19 +274,19 @@ pub record Right (g : Geometry) (n : ℕ) (keys counts tape : List ℕ) (positio
 -- A device of the right length is made, and the position is past the bytes drawn.
 abbrev pub MadeWith : Geometry → (n : ℕ) → (keys counts tape : List ℕ) → (position : ℕ) → Type 0
 MadeWith g n keys counts tape position =
-    (made : List ℕ) × (formatModel (deviceLength g) g n keys counts tape position ≡ Formatted made (position + formatTape g n))
+    (made : List ℕ) × (formatModel (deviceLength g) g n keys counts tape position ≡ LentResult.Served made (position + formatTape g n))
 
 pub record FormatPoints : Type 0 where
   pub blank : FormattedOpens
   pub runs : (made : List ℕ) (x : Handed) (l : Lent) (i : ℕ) → FormattedFor made x l i → FromMaking made x l i
   -- With what is handed in right, nothing but 24 can refuse; with one key there is no lower cell, and with two equal keys one opens.
   pub right : (g : Geometry) (n : ℕ) (keys counts tape : List ℕ) (position : ℕ) → Right g n keys counts tape position
-      → MadeWith g n keys counts tape position ⊎ (formatModel (deviceLength g) g n keys counts tape position ≡ FormatResult.Refused 24)
+      → MadeWith g n keys counts tape position ⊎ (formatModel (deviceLength g) g n keys counts tape position ≡ LentResult.Refused 24)
   pub one-key : (g : Geometry) (key counts tape : List ℕ) (position : ℕ) → Right g 1 key counts tape position
       → MadeWith g 1 key counts tape position
   pub equal-keys : (g : Geometry) (n : ℕ) (keys counts tape : List ℕ) (position : ℕ) → Right g n keys counts tape position
       → (i j : ℕ) → j < i → i < n → keyIn keys i ≡ keyIn keys j
-      → formatModel (deviceLength g) g n keys counts tape position ≡ FormatResult.Refused 24
+      → formatModel (deviceLength g) g n keys counts tape position ≡ LentResult.Refused 24
   -- So a device that opens exists, of every geometry, for every key and every N that is allowed.
   pub some-opens : (x : Handed) (l : Lent) (count : ℕ) → Allowed (x .geometry) → length (x .key) ≡ 32 → CountFits (x .geometry .p) count
       → Names (x .geometry .p) (x .perm) → TablesFit (x .geometry) (length (l .maps)) (length (l .owners))

@@ -1,5 +1,5 @@
 -- Point 1 (README.md, "What is proved"): the listed refusals of each call in their listed order, each with its condition (document 01,
--- "Refused for ..", and the orders of the calls; document 02, P1, P2, P4 and P5). The conditions are the documents', in their own words
+-- "Refused for ..", and the orders of the calls; document 02, P1, P2, P4, P5 and P6). The conditions are the documents', in their own words
 -- and not the model's. Assumes nothing.
 use Prim.Native.Nat.{ℕ, _+_, _-_, _*_, _≤_, _<_}
 use mathlib.Core.Path.{_≡_}
@@ -8,7 +8,7 @@ use mathlib.Core.List.{List, [], _∷_, _++_}
 use lib.ListN.{length, getD}
 use Rattle.model.specs.declared.Geometry.{Geometry}
 use Rattle.model.specs.declared.Session.{Session}
-use Rattle.model.specs.Conditions.{Counted, Usable, TablesFit, EntryFits, EntryFitsAt, Enough, AllHeld, FirstFree, FirstBad, Names}
+use Rattle.model.specs.Conditions.{Counted, Usable, TablesFit, EntryFits, EntryFitsAt, Enough, AllHeld, FirstFree, FirstBad, Names, EnoughDraws}
 use Rattle.model.specs.Parts.{part}
 use Rattle.model.specs.Geometry.{Allowed, deviceLength, mapBlocks, ivStart, blockStart}
 use Rattle.model.specs.Session.{Held, geometry, countOf, unmapped, entry, entryOf, offsetOf}
@@ -109,6 +109,14 @@ formatRules device g n keys counts tape position =
     ∷ rule 23 ((n ≡ 0) ⊎ (15 < n))
     ∷ rule 3 (keys ≡ 32 * n → ⊥)
     ∷ rule 21 (Enough tape position (formatTape g n) → ⊥)
+    ∷ []
+
+-- Shuffle of a list of so many places: 1, 4, 21, also where the position is past the end of the tape (document 02, P6).
+abbrev pub shuffleRules : Geometry → (list : ℕ) → (tape : List ℕ) → (position : ℕ) → List Rule
+shuffleRules g list tape position =
+    rule 1 (Allowed g → ⊥)
+    ∷ rule 4 (list ≡ g .p → ⊥)
+    ∷ rule 21 (EnoughDraws tape position (g .p - 1) → ⊥)
     ∷ []
 
 -- Read: 20, 2, 4, 11, 12, 13, 9.

@@ -7,6 +7,7 @@ pub mod Requests
 pub mod Cells
 pub mod Searches
 pub mod Permutations
+pub mod Shuffles
 pub mod Blocks
 pub mod MapBlocks
 pub mod Seals

@@ -15,13 +15,12 @@ use Rattle.model.specs.declared.ReleaseAnswer.the-variants as release-an
 use Rattle.model.specs.declared.WriteAnswer.{WriteAnswer}
 use Rattle.model.specs.declared.WriteAnswer.the-variants as write-answer
 use Rattle.model.specs.Parts.{patched}
-use Rattle.model.specs.Session.{Outcome}
+use Rattle.model.specs.Session.{Outcome, LentResult}
 use Rattle.model.specs.Opening.{OpenResult, OpenTo, NotOpened, OpenOutcome}
 use Rattle.model.specs.Read.{ReadResult, Filled, Refused}
 use Rattle.model.specs.Write.{WriteResult}
 use Rattle.model.specs.Release.{ReleaseResult}
 use Rattle.model.specs.Close.{CloseResult, Closed}
-use Rattle.model.specs.Format.{FormatResult, Formatted}
 
 -- Opening: k, or the refusal's number.
 abbrev pub openResult : OpenAnswer → OpenResult
@@ -58,19 +57,19 @@ abbrev pub readBuffer : ReadResult → List ℕ → List ℕ
 readBuffer (Filled bytes) old = bytes
 readBuffer (Refused n) old = old
 
--- Formatting: the refusal's number, 0 where the device was made.
-abbrev pub formatNumber : FormatResult → ℕ
-formatNumber (Formatted device position) = 0
-formatNumber (FormatResult.Refused n) = n
+-- Formatting and shuffle: the refusal's number, 0 where the lent list was made.
+abbrev pub lentNumber : LentResult → ℕ
+lentNumber (LentResult.Served list position) = 0
+lentNumber (LentResult.Refused n) = n
 
--- The device and the tape position after a formatting; a refused one leaves both.
-abbrev pub formatDevice : FormatResult → List ℕ → List ℕ
-formatDevice (Formatted device position) old = device
-formatDevice (FormatResult.Refused n) old = old
+-- The lent list and the tape position after it; a refused one leaves both.
+abbrev pub lentList : LentResult → List ℕ → List ℕ
+lentList (LentResult.Served list position) old = list
+lentList (LentResult.Refused n) old = old
 
-abbrev pub formatPosition : FormatResult → ℕ → ℕ
-formatPosition (Formatted device position) old = position
-formatPosition (FormatResult.Refused n) old = old
+abbrev pub lentPosition : LentResult → ℕ → ℕ
+lentPosition (LentResult.Served list position) old = position
+lentPosition (LentResult.Refused n) old = old
 
 -- What an opening has to leave: answer, tables and session.
 pub record OpenLeaves (o : OpenOutcome) (answer : OpenResult) (maps owners : List ℕ) (session : Session) : Type 0 where
@@ -89,8 +88,8 @@ pub record Leaves (A : Type 0) (o : Outcome A) (before : List ℕ) (answer : A) 
   pub moved : position ≡ o .held .position
   pub handed : session ≡ o .held .session
 
--- What a formatting has to leave: the number of its answer, the device and the tape position.
-pub record FormatLeaves (r : FormatResult) (device₀ : List ℕ) (position₀ number : ℕ) (device : List ℕ) (position : ℕ) : Type 0 where
-  pub answered : number ≡ formatNumber r
-  pub stored : device ≡ formatDevice r device₀
-  pub moved : position ≡ formatPosition r position₀
+-- What a formatting or a shuffle has to leave: the number of its answer, the lent list and the tape position.
+pub record LentLeaves (r : LentResult) (list₀ : List ℕ) (position₀ number : ℕ) (list : List ℕ) (position : ℕ) : Type 0 where
+  pub answered : number ≡ lentNumber r
+  pub stored : list ≡ lentList r list₀
+  pub moved : position ≡ lentPosition r position₀

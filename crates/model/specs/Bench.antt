@@ -1,6 +1,6 @@
 -- The starred bench cases of document 01 ("Bench cases"), as document 02 has them, as rows of one table; further rows for what they
 -- leave open, for the limits of a formatting (document 02, P1), for the start place (document 02, P2), for the counts of slices
--- (document 02, P4) and for releases (document 02, P5). Assumes nothing.
+-- (document 02, P4), for releases (document 02, P5) and for shuffles (document 02, P6). Assumes nothing.
 use Prim.Native.Nat.{ℕ, _+_, _*_}
 use mathlib.Core.Path.{_≡_}
 use mathlib.Core.Bool.{Bool, true, false}
@@ -23,6 +23,8 @@ use Rattle.model.specs.Write.{full, claimOutcome, WriteResult}
 use Rattle.model.specs.Release.{ReleaseResult, releaseModel}
 use Rattle.model.specs.Close.{closeRefusal, closedSession}
 use Rattle.model.specs.Format.{formatNeed, formatRefusal}
+use Rattle.model.specs.Shuffle.{limit, shuffleModel}
+use Rattle.model.specs.Answers.{lentNumber, lentList, lentPosition}
 
 -- A geometry by its three numbers, and stick A of the document.
 abbrev pub sized : (b s p : ℕ) → Geometry
@@ -90,6 +92,13 @@ header n s = bit (badHeader stickA (replicate 64 0 ++ (fourBytes n ++ fourBytes 
 abbrev pub shown : WriteResult → List ℕ
 shown (WriteResult.Served change probes) = 0 ∷ probes ∷ []
 shown (WriteResult.Refused n probes) = n ∷ probes ∷ []
+
+-- A shuffle of a list of n places from a position of a tape on: its number, 0 where served, the position afterwards, and the list, no
+-- place where it stays.
+abbrev pub shuffles : Geometry → (n : ℕ) → (tape : List ℕ) → (position : ℕ) → List ℕ
+shuffles g n tape position =
+    let r = shuffleModel g n tape position in
+    lentNumber r ∷ lentPosition r position ∷ lentList r []
 
 -- The slice that a search found, the mark where it found none.
 abbrev pub sliceFound : Search → ℕ
@@ -189,6 +198,22 @@ cases =
     ∷ releaseNumber (session stickA 1) 1 1 (2 ∷ 0 ∷ 3 ∷ []) ∷ releaseNumber (session stickA 1) 1 1 (2 ∷ 0 ∷ 3 ∷ 1 ∷ 1 ∷ [])
     ∷ releaseNumber (closedSession (session stickA 1)) 1 1 [] ∷ [])
     (5 ∷ 5 ∷ 5 ∷ 5 ∷ 5 ∷ 20 ∷ [])
+    -- A: six zeros make 1 2 3 0 of 0 1 2 3; draws 3, 2, 1 leave it; draws 256, most significant byte first, make 2 3 1 0; 0 is a choice
+    -- of every place, and the place itself (document 02, P6).
+    ∷ row (shuffles stickA 4 (replicate 6 0) 0) (0 ∷ 6 ∷ 1 ∷ 2 ∷ 3 ∷ 0 ∷ [])
+    ∷ row (shuffles stickA 4 (0 ∷ 3 ∷ 0 ∷ 2 ∷ 0 ∷ 1 ∷ []) 0) (0 ∷ 6 ∷ 0 ∷ 1 ∷ 2 ∷ 3 ∷ [])
+    ∷ row (shuffles stickA 4 (1 ∷ 0 ∷ 1 ∷ 0 ∷ 1 ∷ 0 ∷ []) 0) (0 ∷ 6 ∷ 2 ∷ 3 ∷ 1 ∷ 0 ∷ [])
+    -- FFFF is accepted for 4 and for 2 choices and thrown away for 3, FFFE is accepted for all: from byte 1 of a tape with a byte left.
+    ∷ row (shuffles stickA 4 (9 ∷ 255 ∷ 255 ∷ 255 ∷ 255 ∷ 0 ∷ 1 ∷ 0 ∷ 0 ∷ 9 ∷ []) 1) (0 ∷ 9 ∷ 2 ∷ 0 ∷ 1 ∷ 3 ∷ [])
+    ∷ row (shuffles stickA 4 (255 ∷ 254 ∷ 255 ∷ 254 ∷ 255 ∷ 254 ∷ []) 0) (0 ∷ 6 ∷ 1 ∷ 0 ∷ 3 ∷ 2 ∷ [])
+    ∷ row (limit 2 ∷ limit 3 ∷ limit 4 ∷ limit 5 ∷ limit 4095 ∷ limit 4096 ∷ []) (65536 ∷ 65535 ∷ 65536 ∷ 65535 ∷ 65520 ∷ 65536 ∷ [])
+    -- A tape that ends first, with an odd byte or with draws that are thrown away, is 21; a list of 3 or 5 is 4, before it; P 0 is 1,
+    -- before both.
+    ∷ row (shuffles stickA 4 (replicate 5 0) 0 ++ shuffles stickA 4 (replicate 40 255) 0) (21 ∷ 0 ∷ 21 ∷ 0 ∷ [])
+    ∷ row (shuffles stickA 3 [] 0 ++ (shuffles stickA 5 (replicate 6 0) 0 ++ shuffles (sized 1024 4 0) 3 [] 1)) (4 ∷ 0 ∷ 4 ∷ 0 ∷ 1 ∷ 1 ∷ [])
+    -- P 1 draws nothing: served at the end of the tape, and 21 past it.
+    ∷ row (shuffles (sized 1024 4 1) 1 [] 0 ++ (shuffles (sized 1024 4 1) 1 (7 ∷ []) 1 ++ shuffles (sized 1024 4 1) 1 (7 ∷ []) 2))
+    (0 ∷ 0 ∷ 0 ∷ 0 ∷ 1 ∷ 0 ∷ 21 ∷ 2 ∷ [])
     -- S-box: 00 to 63, 01 to 7c. Field: 57 times 83 is c1.
     ∷ row (sbox 0x00 ∷ sbox 0x01 ∷ times 0x57 0x83 ∷ []) (0x63 ∷ 0x7c ∷ 0xc1 ∷ [])
     -- Counter of 16 bytes FF, plus one: 16 bytes 00.

@@ -1,13 +1,14 @@
--- The facts behind the refusals, in the words of document 01 ("Refused for ..") and document 02 (P2, the start place; P4, the counts).
--- Assumes nothing.
-use Prim.Native.Nat.{ℕ, _+_, _*_, _/_, _%_, _≤_, _<_}
+-- The facts behind the refusals, in the words of document 01 ("Refused for ..") and document 02 (P2, the start place; P4, the counts; P6,
+-- the draws of a shuffle). Assumes nothing.
+use Prim.Native.Nat.{ℕ, suc, _+_, _-_, _*_, _/_, _%_, _≤_, _<_}
 use mathlib.Core.Path.{_≡_}
 use mathlib.Core.Logic.{_⊎_}
 use mathlib.Core.Bool.{true}
-use mathlib.Core.List.{List}
+use mathlib.Core.List.{List, [], _∷_}
 use lib.ListN.{length, getD}
 use Rattle.model.specs.declared.Geometry.{Geometry}
 use Rattle.model.specs.declared.Session.{Session}
+use Rattle.model.specs.Parts.{part}
 use Rattle.model.specs.Geometry.{Allowed, countIn}
 use Rattle.model.specs.Session.{unmapped}
 
@@ -80,3 +81,48 @@ pub record FirstBad (owners : List ℕ) (p : ℕ) (perm : List ℕ) (start n : �
 pub record Names (p : ℕ) (perm : List ℕ) : Type 0 where
   pub places : length perm ≡ p
   pub each : (ψ : ℕ) → ψ < p → (n : ℕ) × (n < length perm) × (sliceAt perm n ≡ ψ)
+
+-- ---- shuffles (document 02, P6)
+
+-- ys is xs with places i and j exchanged.
+pub record Exchanged (i j : ℕ) (xs ys : List ℕ) : Type 0 where
+  pub places : length ys ≡ length xs
+  pub one : sliceAt ys i ≡ sliceAt xs j
+  pub other : sliceAt ys j ≡ sliceAt xs i
+  pub rest : (n : ℕ) → (n ≡ i → ⊥) → (n ≡ j → ⊥) → sliceAt ys n ≡ sliceAt xs n
+
+-- zs is xs after each place from i down to 1 was exchanged with a place from 0 to itself: the remainder of the place's draw by its
+-- number of choices, which is one more than the place.
+pub data Exchanges : (i : ℕ) → (draws xs zs : List ℕ) → Type 0 where
+  done : (xs : List ℕ) → Exchanges 0 [] xs xs
+  next : (i d : ℕ) (ds xs ys zs : List ℕ) → Exchanged (suc i) (d % suc (suc i)) xs ys → Exchanges i ds ys zs
+      → Exchanges (suc i) (d ∷ ds) xs zs
+
+-- perm is the ordering that a draw for each place from the last down to 1 makes of the slices 0 to P - 1.
+pub record Shuffles (p : ℕ) (draws perm : List ℕ) : Type 0 where
+  pub start : List ℕ
+  pub places : length start ≡ p
+  pub each : (n : ℕ) → n < p → sliceAt start n ≡ n
+  pub exchanges : Exchanges (p - 1) draws start perm
+
+-- With n choices a draw is accepted where it is below a multiple of n not above 65,536, and so below the largest.
+abbrev pub Accepts : (n d : ℕ) → Type 0
+Accepts n d = (m : ℕ) × (d < m * n) × (m * n ≤ 65536)
+
+-- The bytes are draws for the places from i down to 1, two bytes each, most significant first: for each place any number of draws
+-- that are thrown away, then the one that is accepted.
+pub data Drawing : (i : ℕ) → (bytes accepted : List ℕ) → Type 0 where
+  done : Drawing 0 [] []
+  thrown : (i a b : ℕ) (bytes ds : List ℕ) → (Accepts (suc (suc i)) (256 * a + b) → ⊥) → Drawing (suc i) bytes ds
+      → Drawing (suc i) (a ∷ b ∷ bytes) ds
+  taken : (i a b : ℕ) (bytes ds : List ℕ) → Accepts (suc (suc i)) (256 * a + b) → Drawing i bytes ds
+      → Drawing (suc i) (a ∷ b ∷ bytes) ((256 * a + b) ∷ ds)
+
+-- The n bytes of a tape from a position on are such draws (21).
+pub record DrawnFrom (tape : List ℕ) (position i : ℕ) (accepted : List ℕ) (n : ℕ) : Type 0 where
+  pub inside : position + n ≤ length tape
+  pub bytes : Drawing i (part position n tape) accepted
+
+-- A tape does not end before the draws for the places from i down to 1 do.
+abbrev pub EnoughDraws : (tape : List ℕ) → (position i : ℕ) → Type 0
+EnoughDraws tape position i = (accepted : List ℕ) × (n : ℕ) × DrawnFrom tape position i accepted n

@@ -10,7 +10,7 @@ use Rattle.gcm.specs.Gcm.{gcmText, gcmTag}
 use Rattle.model.specs.declared.Geometry.{Geometry}
 use Rattle.model.specs.Parts.{part, Patch, patched}
 use Rattle.model.specs.Geometry.{badGeometry, countIn, anyBadCount, deviceLength, mapBlocks, fourBytes, cellStart, headerStart, mapStart}
-use Rattle.model.specs.Session.{keyIn, short, unless}
+use Rattle.model.specs.Session.{LentResult, Served, Refused, keyIn, short, unless}
 use Rattle.model.specs.Opening.{Cell, At, NoCell, firstCell, noMaps}
 use Rattle.model.specs.Close.{mapBytes}
 
@@ -113,19 +113,14 @@ formatRefusal device g n keys counts tape position rest =
     (refuse (short tape position (formatNeed g n)) 21
     rest)))))))
 
--- The answer of a formatting: the device and the tape position afterwards, or the refusal.
-pub data FormatResult : Type 0 where
-  Formatted : (device : List ℕ) → (position : ℕ) → FormatResult
-  Refused : ℕ → FormatResult
-
 -- 24 where a key opens a lower cell as it will stand, made from the bytes drawn; else 0.
 abbrev pub lowerRefusal : Geometry → (n : ℕ) → (keys drawn : List ℕ) → ℕ
 lowerRefusal g n keys drawn = refuse (lowerOpens keys (madeCell g n keys drawn) n) 24 0
 
 -- Formatting of a device of so many bytes with n keys, which stand end to end, and a count of slices for each (document 02, P4).
-unfoldable pub formatModel : (device : ℕ) → Geometry → (n : ℕ) → (keys counts tape : List ℕ) → (position : ℕ) → FormatResult
+unfoldable pub formatModel : (device : ℕ) → Geometry → (n : ℕ) → (keys counts tape : List ℕ) → (position : ℕ) → LentResult
 formatModel device g n keys counts tape position =
     unless
     (formatRefusal device g n (length keys) counts (length tape) position (lowerRefusal g n keys (part position (formatNeed g n) tape)))
     Refused
-    (Formatted (formatted g n keys counts (part position (formatNeed g n) tape)) (position + formatNeed g n))
+    (Served (formatted g n keys counts (part position (formatNeed g n) tape)) (position + formatNeed g n))

@@ -33,6 +33,7 @@ pub mod Write
 pub mod Release
 pub mod Close
 pub mod Format
+pub mod Shuffle
 pub mod Answers
 pub mod Theorems
 pub mod Bench

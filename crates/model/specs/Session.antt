@@ -135,6 +135,11 @@ pub record Outcome (A : Type 0) : Type 0 where
 abbrev pub idle : {A : Type 0} → Held → A → Outcome A
 idle h a = record { answer = a; patches = []; held = h }
 
+-- The answer of a call that is lent one list and the tape position, a formatting or a shuffle: what both are afterwards, or the refusal.
+pub data LentResult : Type 0 where
+  Served : (list : List ℕ) → (position : ℕ) → LentResult
+  Refused : ℕ → LentResult
+
 -- No data key: 15 times 32 zeros.
 unfoldable pub noKeys : List ℕ
 noKeys = replicate 480 0

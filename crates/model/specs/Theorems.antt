@@ -4,7 +4,7 @@ use mathlib.Core.Path.{_≡_}
 use mathlib.Core.Bool.{true, false}
 use mathlib.Core.List.{List, [], _∷_, _++_}
 use lib.Dec.{eqb}
-use lib.ListN.{length, getD, replicate}
+use lib.ListN.{length, getD, replicate, take}
 use Rattle.refusals.specs.Numbers.{refusalNumber}
 use Rattle.refusals.specs.declared.Refusal.{Refusal}
 use Rattle.refusals.specs.declared.Answer.the-variants as answer
@@ -21,19 +21,20 @@ use Rattle.model.specs.declared.WriteAnswer.the-variants as write-answer
 use Rattle.model.specs.Parts.{choose, part, joined, patched}
 use Rattle.model.specs.Geometry.{Allowed, countIn, perBlock, mapBlocks, headerBlocks, deviceLength, numberAt, fourBytes, cellStart, cellOf}
 use Rattle.model.specs.Geometry.{headerStart, headerOf, mapStart, sliceStart, sliceSize, ivStart, blockStart}
-use Rattle.model.specs.Session.{Held, held, Outcome, geometry, keyIn, keyOf, countOf, blockCount, slot, sliceOf, offsetOf, unmapped, noKeys}
+use Rattle.model.specs.Session.{Held, held, Outcome, LentResult, geometry, keyIn, keyOf, countOf, blockCount, slot, sliceOf, offsetOf, unmapped, noKeys}
 use Rattle.model.specs.Permutation.{placeOf}
 use Rattle.model.specs.Search.{firstFree}
-use Rattle.model.specs.Conditions.{sliceAt, AllHeld, FirstFree, FirstBad, Names}
+use Rattle.model.specs.Conditions.{sliceAt, AllHeld, FirstFree, FirstBad, Names, Shuffles, Drawing}
 use Rattle.model.specs.Opening.{At, openCell, openHeader, vekOf, vmkBelow, sliceCount, firstCell, storedEntry, allKeys, allCounts}
 use Rattle.model.specs.Opening.{OpenResult, OpenTo, NotOpened, OpenOutcome}
 use Rattle.model.specs.Read.{deciphered, Filled, Refused}
 use Rattle.model.specs.Write.{WriteResult, claimedBytes, claimed}
 use Rattle.model.specs.Release.{ReleaseResult, released}
 use Rattle.model.specs.Close.{CloseResult, mapBlock}
-use Rattle.model.specs.Format.{lowerOpens, FormatResult, Formatted}
+use Rattle.model.specs.Format.{lowerOpens}
+use Rattle.model.specs.Shuffle.{ordering, draws, Accepted, run}
 use Rattle.model.specs.Answers.{openResult, changeSlice, writeResult, releaseResult, closeResult, readNumber, readBuffer, OpenLeaves}
-use Rattle.model.specs.Answers.{Leaves, formatNumber, formatDevice, formatPosition, FormatLeaves}
+use Rattle.model.specs.Answers.{Leaves, lentNumber, lentList, lentPosition, LentLeaves}
 
 -- ---- where things stand (document 01, "Geometry of a stick")
 
@@ -132,14 +133,14 @@ pub record AnswerLaws : Type 0 where
   pub close-served : closeResult answer.Served ≡ CloseResult.Closed
   pub close-refused : (r : Refusal) → closeResult (answer.Refused r) ≡ CloseResult.Refused (refusalNumber r)
   pub close-leaves : LeavesAll CloseResult
-  pub format-served : (made old : List ℕ) (after position : ℕ)
-      → (formatNumber (Formatted made after) ≡ 0) × (formatDevice (Formatted made after) old ≡ made)
-      × (formatPosition (Formatted made after) position ≡ after)
-  pub format-refused : (n : ℕ) (old : List ℕ) (position : ℕ)
-      → (formatNumber (FormatResult.Refused n) ≡ n) × (formatDevice (FormatResult.Refused n) old ≡ old)
-      × (formatPosition (FormatResult.Refused n) position ≡ position)
-  pub format-leaves : (r : FormatResult) (old : List ℕ) (position n : ℕ) (device : List ℕ) (after : ℕ) → FormatLeaves r old position n device after
-      → (n ≡ formatNumber r) × (device ≡ formatDevice r old) × (after ≡ formatPosition r position)
+  pub lent-served : (made old : List ℕ) (after position : ℕ)
+      → (lentNumber (LentResult.Served made after) ≡ 0) × (lentList (LentResult.Served made after) old ≡ made)
+      × (lentPosition (LentResult.Served made after) position ≡ after)
+  pub lent-refused : (n : ℕ) (old : List ℕ) (position : ℕ)
+      → (lentNumber (LentResult.Refused n) ≡ n) × (lentList (LentResult.Refused n) old ≡ old)
+      × (lentPosition (LentResult.Refused n) position ≡ position)
+  pub lent-leaves : (r : LentResult) (old : List ℕ) (position n : ℕ) (list : List ℕ) (after : ℕ) → LentLeaves r old position n list after
+      → (n ≡ lentNumber r) × (list ≡ lentList r old) × (after ≡ lentPosition r position)
 
 -- ---- what calls find, write and leave
 
@@ -183,6 +184,14 @@ pub record ModelLaws : Type 0 where
       → getD (released h i σ ψ place .held .maps) n 0 ≡ choose (eqb n (slot (geometry h) i σ)) unmapped (getD (h .maps) n 0)
   pub released-owner : (h : Held) (i σ ψ place φ : ℕ) → φ < length (h .owners)
       → getD (released h i σ ψ place .held .owners) φ 0 ≡ choose (eqb φ ψ) 0 (getD (h .owners) φ 0)
+  -- The ordering of draws names each slice, and is what the exchanges make of the slices in order.
+  pub ordering-names : (p : ℕ) (ds : List ℕ) → Names p (ordering p ds)
+  pub ordering-shuffles : (p : ℕ) (ds : List ℕ) → length ds ≡ p - 1 → Shuffles p ds (ordering p ds)
+  -- The accepted draws of a run are those that the words for them give, whatever stands behind them on the tape.
+  pub run-drawn : (i : ℕ) (tape ds : List ℕ) (n : ℕ) → run i (draws tape) ≡ Accepted ds n
+      → (2 * n ≤ length tape) × Drawing i (take (2 * n) tape) ds
+  pub drawing-run : (i : ℕ) (bytes ds rest : List ℕ) → Drawing i bytes ds
+      → (n : ℕ) × (length bytes ≡ 2 * n) × (run i (draws (bytes ++ rest)) ≡ Accepted ds n)
   -- Map block t of volume i begins with its IV; each of its entries deciphers to that of row i, the mark past the last.
   pub map-block : (maps : List ℕ) (g : Geometry) → Allowed g → (vek iv : List ℕ) (i t e : ℕ)
       → i * g .p + g .p ≤ length maps → length iv ≡ 16 → e < perBlock g

@@ -27,9 +27,9 @@ returns c =
       close-served = refl;
       close-refused = λ r. refl;
       close-leaves = leaves-all _;
-      format-served = λ made old after position. (refl, refl, refl);
-      format-refused = λ n old position. (refl, refl, refl);
-      format-leaves = λ r old position n device after l. (l .answered, l .stored, l .moved);
+      lent-served = λ made old after position. (refl, refl, refl);
+      lent-refused = λ n old position. (refl, refl, refl);
+      lent-leaves = λ r old position n list after l. (l .answered, l .stored, l .moved);
     }
 
 pub answer-laws-spec : {M : Type 1} → statement M

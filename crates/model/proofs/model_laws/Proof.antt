@@ -17,6 +17,7 @@ use Rattle.model.proofs.MapBlocks.{mapBlock-row}
 use Rattle.model.proofs.Permutations.{names-place, names-once}
 use Rattle.model.proofs.Searches.{free-found, bad-found, none-found}
 use Rattle.model.proofs.Seals.{block-iv, block-entry}
+use Rattle.model.proofs.Shuffles.{ordering-names, ordering-shuffles, run-drawn, drawing-run}
 use Rattle.model.proofs.Tests.{equal}
 use Rattle.model.proofs.model_laws.Statement.{statement}
 use Rattle.model.proofs.model_laws.Tie as tie
@@ -49,6 +50,10 @@ returns c =
           );
       released-entry = λ h i σ ψ place n l. set-at (h .maps) _ _ n l;
       released-owner = λ h i σ ψ place φ l. set-at (h .owners) ψ 0 φ l;
+      ordering-names = ordering-names;
+      ordering-shuffles = ordering-shuffles;
+      run-drawn = run-drawn;
+      drawing-run = λ i bytes ds rest q. drawing-run q rest;
       map-block = λ maps g ok vek iv i t e l ivl le fits.
           rw (mapBlock-row maps g i t l vek iv) (block-iv g ok vek iv _ ivl, block-entry g ok vek iv _ ivl e le fits);
     }
