@@ -5,7 +5,7 @@
 ghost use Rattle.model.specs.Format.{formatModel};
 ghost use lib.ListN.{length};
 ghost use Rattle.records.specs.Structs.{geometryIn};
-ghost use Rattle.c_formatting.specs.Handed.{FormatHanded, HandedLaws};
+ghost use Rattle.replies.specs.Lent.{LentHanded};
 
 // Formatting: answers 0 or the refusal.
 #[no_mangle]
@@ -18,7 +18,7 @@ pub extern "C" fn hiwalgam_format(
     tape: &[u8],
     position: &mut usize,
 ) -> u8
-    ensures { λ r. ⌜ FormatHanded (now (geometry .entry)) (formatModel (length (now (device .entry))) (geometryIn (now (geometry .entry))) volumes
+    ensures { λ r. ⌜ LentHanded (now (geometry .entry)) (formatModel (length (now (device .entry))) (geometryIn (now (geometry .entry))) volumes
         (now (keys .entry)) (now (counts .entry)) (now (tape .entry)) (now (position .entry))) (now (device .entry)) (now (position .entry)) r (now (device .exit))
         (now (position .exit)) ⌝ }
 {
@@ -29,8 +29,3 @@ pub extern "C" fn hiwalgam_format(
     let answer = lending::format_at(device, g, volumes, keys, counts, tape, position);
     refusals::answer_number(answer)
 }
-
-// What the contract fixes: nothing runs, and the check has to prove it.
-pub fn handed_laws()
-    ensures { λ r. ⌜ HandedLaws ⌝ }
-{}

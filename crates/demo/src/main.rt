@@ -1,5 +1,6 @@
-// A demonstration of the engine: a small device image with two volumes is formatted, opened, written and read, a slice of it is given
-// back and claimed again, and it is closed and opened again with either key and with one that opens nothing; every answer is printed.
+// A demonstration of the engine: a small device image with two volumes is formatted, a permutation is drawn for it, it is opened, written
+// and read, a slice of it is given back and claimed again, and it is closed and opened again with either key and with one that opens
+// nothing; every answer is printed.
 // Keys and tape are fixed bytes here, so that each run prints the same; a real device has them drawn at random.
 use libc::STDOUT_FILENO;
 use model::Change;
@@ -18,6 +19,23 @@ fn say(text: &[u8]) {
 
 fn say_number(n: usize) {
     io::print_decimal(STDOUT_FILENO, n as u64);
+}
+
+fn say_position(position: usize) {
+    say(b", tape position ");
+    say_number(position);
+    say(b"\n");
+}
+
+// The slices in the order in which claims look for a free one.
+fn say_order(perm: &[u32]) {
+    say(b", order");
+    let mut i = 0;
+    while i < perm.len() {
+        say(b" ");
+        say_number(perm[i] as usize);
+        i += 1;
+    }
 }
 
 // The logical slices of each open volume: above the opened one the count is 0.
@@ -73,9 +91,7 @@ fn say_write(answer: WriteAnswer, position: usize) {
             say_number(probes);
         }
     }
-    say(b", tape position ");
-    say_number(position);
-    say(b"\n");
+    say_position(position);
 }
 
 fn say_release(answer: ReleaseAnswer, start: usize) {
@@ -144,10 +160,8 @@ fn show_format(words: &[u8], device: &mut [u8], keys: &[u8], tape: &[u8], at: &m
     let counts = [4usize, 2];
     let answer = lending::format_at(device, geometry(), 2, keys, &counts, tape, at);
     say_answer(answer);
-    say(b", tape position ");
     let position = *at;
-    say_number(position);
-    say(b"\n");
+    say_position(position);
 }
 
 // The device is made, with 4 logical slices for volume 0 and 2 for volume 1: not with one key for both volumes, since it would open
@@ -157,6 +171,27 @@ fn show_making(device: &mut [u8], tape: &[u8], at: &mut usize) {
     show_format(b"format with one key twice: ", device, &twice, tape, at);
     let keys = caller_keys();
     show_format(b"format with keys 0 and 1: ", device, &keys, tape, at);
+}
+
+fn show_shuffle(perm: &mut [u32], tape: &[u8], at: &mut usize) {
+    say(b"shuffle a list of ");
+    say_number(perm.len());
+    say(b" places: ");
+    let answer = lending::shuffle_at(geometry(), perm, tape, at);
+    say_answer(answer);
+    match answer {
+        Answer::Served => say_order(perm),
+        Answer::Refused(_) => {}
+    }
+    let position = *at;
+    say_position(position);
+}
+
+// The permutation is drawn: not into a list of 3 places, since there are 4 slices.
+fn show_drawing(perm: &mut [u32], tape: &[u8], at: &mut usize) {
+    let mut three = [0u32; 3];
+    show_shuffle(&mut three, tape, at);
+    show_shuffle(perm, tape, at);
 }
 
 fn show_open(
@@ -339,10 +374,8 @@ fn show_close(
     let r = lending::close_at(device, maps, owners, tape, at, session);
     let answer = r.answer;
     say_answer(answer);
-    say(b", tape position ");
     let position = *at;
-    say_number(position);
-    say(b"\n");
+    say_position(position);
     let closed = r.session;
     closed
 }
@@ -432,11 +465,12 @@ fn show_again(device: &[u8], maps: &mut [u32], owners: &mut [u8], perm: &[u32]) 
 }
 
 fn show(device: &mut [u8], tape: &[u8], text: &[u8]) {
-    let perm = [2u32, 0, 3, 1];
+    let mut perm = [0u32; 4];
     let mut maps = [0u32; 60];
     let mut owners = [0u8; 4];
     let mut at: usize = 0;
     show_making(device, tape, &mut at);
+    show_drawing(&mut perm, tape, &mut at);
     show_session(device, &mut maps, &mut owners, &perm, tape, &mut at, text);
     show_again(device, &mut maps, &mut owners, &perm);
 }

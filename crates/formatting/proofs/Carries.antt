@@ -17,7 +17,7 @@ use Rattle.model.specs.Parts.{part}
 use Rattle.model.specs.Geometry.{Allowed, deviceLength}
 use Rattle.model.specs.Conditions.{Counted}
 use Rattle.model.specs.Format.{formatNeed, formatRefusal, lowerRefusal, formatted, formatModel}
-use Rattle.model.specs.Answers.{FormatLeaves}
+use Rattle.model.specs.Answers.{LentLeaves}
 use Rattle.model.proofs.Requests.{Formattable, formatRefusal-none}
 use Rattle.model.proofs.Order.{unless-refused}
 use Rattle.tape.specs.Draw.{drawn, past}
@@ -62,7 +62,7 @@ module _ (device : List ℕ) (g : Geometry) (n : ℕ) (keys counts tape : List �
 
       pub format-ensures : (r : Answer) (device′ : List ℕ)
           → (r ≡ a) × (device′ ≡ unlessRefused (answerNumber a) (formatted g n keys counts bytes) device)
-          → FormatLeaves (formatModel (length device) g n keys counts tape at) device at (answerNumber r) device′ at′
+          → LentLeaves (formatModel (length device) g n keys counts tape at) device at (answerNumber r) device′ at′
       unfolding formatModel unlessRefused
       format-ensures r device′ l =
           rw (draw .1 ∙ ap (past tape at) needs, l .0)
@@ -70,7 +70,7 @@ module _ (device : List ℕ) (g : Geometry) (n : ℕ) (keys counts tape : List �
         where
           leaves : (a : Answer) → answerNumber a ≡ refusal
               → device′ ≡ unlessRefused (answerNumber a) (formatted g n keys counts (drawn tape at (needed a g n))) device
-              → FormatLeaves (formatModel (length device) g n keys counts tape at) device at (answerNumber a) device′ (past tape at (needed a g n))
+              → LentLeaves (formatModel (length device) g n keys counts tape at) device at (answerNumber a) device′ (past tape at (needed a g n))
           leaves Served e s =
               let h = ready (sym e) .enough in
               rw (← e)

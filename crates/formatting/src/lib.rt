@@ -10,7 +10,7 @@ ghost use Rattle.refusals.specs.Numbers.{answerNumber};
 ghost use Rattle.model.specs.Parts.{part};
 ghost use Rattle.model.specs.Geometry.{Allowed, cellOf};
 ghost use Rattle.model.specs.Format.{formatNeed, madeCell, lowerOpens, formatRefusal, lowerRefusal, formatModel};
-ghost use Rattle.model.specs.Answers.{FormatLeaves};
+ghost use Rattle.model.specs.Answers.{LentLeaves};
 ghost use Rattle.making.specs.Drawn.{Makes};
 ghost use Rattle.formatting.specs.Needed.{needed};
 use model::Geometry;
@@ -145,7 +145,7 @@ pub fn format(
     tape: &[u8],
     position: &mut TapePosition,
 ) -> Answer
-    ensures { λ r. ⌜ FormatLeaves (formatModel (length (now (device .entry))) g volumes (now (keys .entry)) (now (counts .entry)) (now (tape .entry))
+    ensures { λ r. ⌜ LentLeaves (formatModel (length (now (device .entry))) g volumes (now (keys .entry)) (now (counts .entry)) (now (tape .entry))
         (now (position .entry) .at)) (now (device .entry)) (now (position .entry) .at) (answerNumber r) (now (device .exit))
         (now (position .exit) .at) ⌝ }
 {

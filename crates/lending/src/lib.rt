@@ -7,7 +7,8 @@ ghost use Rattle.model.specs.Session.{held};
 ghost use Rattle.model.specs.Write.{WriteResult, writeModel};
 ghost use Rattle.model.specs.Close.{CloseResult, closeModel};
 ghost use Rattle.model.specs.Format.{formatModel};
-ghost use Rattle.model.specs.Answers.{writeResult, closeResult, Leaves, FormatLeaves};
+ghost use Rattle.model.specs.Shuffle.{shuffleModel};
+ghost use Rattle.model.specs.Answers.{writeResult, closeResult, Leaves, LentLeaves};
 ghost use Rattle.refusals.specs.Numbers.{answerNumber};
 use model::Geometry;
 use model::Reply;
@@ -80,11 +81,22 @@ pub fn format_at(
     tape: &[u8],
     at: &mut usize,
 ) -> Answer
-    ensures { λ r. ⌜ FormatLeaves (formatModel (length (now (device .entry))) g volumes (now (keys .entry)) (now (counts .entry)) (now (tape .entry))
+    ensures { λ r. ⌜ LentLeaves (formatModel (length (now (device .entry))) g volumes (now (keys .entry)) (now (counts .entry)) (now (tape .entry))
         (now (at .entry))) (now (device .entry)) (now (at .entry)) (answerNumber r) (now (device .exit)) (now (at .exit)) ⌝ }
 {
     let mut position = TapePosition { at: *at };
     let r = formatting::format(device, g, volumes, keys, counts, tape, &mut position);
+    *at = position.at;
+    r
+}
+
+// `shuffling::shuffle` with the tape position as a number.
+pub fn shuffle_at(g: Geometry, perm: &mut [u32], tape: &[u8], at: &mut usize) -> Answer
+    ensures { λ r. ⌜ LentLeaves (shuffleModel g (length (now (perm .entry))) (now (tape .entry)) (now (at .entry))) (now (perm .entry))
+        (now (at .entry)) (answerNumber r) (now (perm .exit)) (now (at .exit)) ⌝ }
+{
+    let mut position = TapePosition { at: *at };
+    let r = shuffling::shuffle(g, perm, tape, &mut position);
     *at = position.at;
     r
 }

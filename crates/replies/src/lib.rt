@@ -1,5 +1,6 @@
 // The answers of an opening, a write and a release as the C functions hand them over (include/hiwalgam.h): the struct of a write's
-// answer, the slice that a release freed, and the numbers that they return.
+// answer, the slice that a release freed, and the numbers that they return. What a formatting and a shuffle hand over is a definition
+// alone (`LentHanded`), with its laws.
 ghost use mathlib.Core.Path.{_≡_};
 ghost use lib.ListN.{length};
 ghost use Rattle.model.specs.Answers.{openResult, changeSlice, writeResult, releaseResult};
@@ -99,7 +100,7 @@ pub fn put_freed(slice: &mut usize, answer: ReleaseAnswer)
 
 // ---- laws
 
-// What is told of a write stands in its struct. Nothing runs, and the check has to prove it.
+// What a C program finds where an answer was handed over. Nothing runs, and the check has to prove it.
 pub fn reply_laws()
     ensures { λ _. ⌜ ReplyLaws ⌝ }
 {}

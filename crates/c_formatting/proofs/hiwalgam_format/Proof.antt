@@ -1,18 +1,19 @@
 -- `c_formatting::hiwalgam_format` meets its contract. Assumes nothing.
+use native.Mathlib.Omega.{arith}
 use borrow.Author.Needs.{needs}
-use Rattle.c_formatting.proofs.Handed.{format-geometry, format-sized}
+use Rattle.replies.proofs.Lent.{lent-geometry, lent-sized}
 use Rattle.c_formatting.proofs.hiwalgam_format.Statement.{statement}
 use Rattle.c_formatting.proofs.hiwalgam_format.Tie as tie
 
 returns : tie.Need-returns
-returns c = format-geometry (c .if1 .taken)
+returns c = lent-geometry (λ e. omega arith)
 
 returns-2 : tie.Need-returns-2
 returns-2 c =
     let called = c .before .before .before in
     let read = called .before .before .before in
     let left = rw (read .geometry-in .ensures) at (called .format-at .ensures) in
-    format-sized (read .before .if1 .left) left (c .answer-number .ensures)
+    lent-sized (read .before .if1 .left) left (c .answer-number .ensures)
 
 pub hiwalgam-format-spec : {M : Type 1} → statement M
 hiwalgam-format-spec =
