@@ -4,8 +4,9 @@
  *     valgrind -q --error-limit=no constant_time
  *
  * Keys and texts are hidden: marked as undefined for valgrind's memcheck, which follows each bit of them through a call
- * and reports every conditional jump and every address that is made from them. Lengths, IVs, positions, tables, the
- * device before a call and the tape, but for that of a formatting, are not hidden.
+ * and reports every conditional jump and every address that is made from them. The tape of a formatting is hidden, since
+ * keys are taken from it; at a shuffle after it all of that tape but the bytes of the shuffle's own draws, which make the
+ * permutation and no key. Lengths, IVs, positions, tables, the device before a call and other tapes are not hidden.
  *
  * A call that works on bit planes, or enciphers nothing, has to pass without a report. As many bytes of device and
  * buffer as it made of texts have to depend on what is hidden, and nothing else that it sets. A call that looks into the
@@ -35,12 +36,20 @@ static void hide(struct stick *s, int tape)
     if (tape) VALGRIND_MAKE_MEM_UNDEFINED(s->tape, s->tape_length);
 }
 
+/* Hides the tape that a shuffle is lent, but for its draws. */
+static void hide_all_but_draws(struct stick *s)
+{
+    VALGRIND_MAKE_MEM_UNDEFINED(s->tape, s->tape_length);
+    VALGRIND_MAKE_MEM_DEFINED(s->tape + s->position, 2 * (s->slices - 1));
+}
+
 /* Ends the hiding of all that a call could read or set. */
 static void show(struct stick *s)
 {
     VALGRIND_MAKE_MEM_DEFINED(s->device, s->device_length);
     VALGRIND_MAKE_MEM_DEFINED(s->maps, HIWALGAM_VOLUMES * s->slices * sizeof *s->maps);
     VALGRIND_MAKE_MEM_DEFINED(s->owners, s->slices);
+    VALGRIND_MAKE_MEM_DEFINED(s->permutation, s->slices * sizeof *s->permutation);
     VALGRIND_MAKE_MEM_DEFINED(s->tape, s->tape_length);
     VALGRIND_MAKE_MEM_DEFINED(s, sizeof *s);
 }
@@ -69,6 +78,7 @@ static size_t depending_texts(const struct stick *s)
 static size_t depending_others(const struct stick *s)
 {
     return depending(s->maps, HIWALGAM_VOLUMES * s->slices * sizeof *s->maps) + depending(s->owners, s->slices)
+        + depending(s->permutation, s->slices * sizeof *s->permutation)
         + depending(&s->session, offsetof(hiwalgam_session, keys))
         + depending(s->session.counts, sizeof s->session.counts) + depending(&s->written, sizeof s->written)
         + depending(&s->freed, sizeof s->freed) + depending(&s->position, sizeof s->position)
@@ -173,6 +183,8 @@ static void try_session(uint64_t block_bytes, uint64_t slice_blocks, uint64_t sl
 
     printf("B %lu, S %lu, P %lu:\n", (unsigned long)block_bytes, (unsigned long)slice_blocks, (unsigned long)slices);
     by_table("format", call_format, s, 1);
+    hide_all_but_draws(s);
+    on_planes("shuffle", call_shuffle, s, 0);
     by_table("open", call_open, s, 0);
     on_planes("write, a claim", call_write, s, block * (size_t)slice_blocks);
     on_planes("write, a rewrite", call_write, s, block);

@@ -1,6 +1,7 @@
 /*
  * A first program: makes a device with two volumes of different lengths, opens both, writes the last block of the upper
- * one, closes, opens again, reads the block back and gives its slice back, after which the block is zeros.
+ * one, closes, opens again, reads the block back and gives its slice back, after which the block is zeros. Each of the
+ * two sessions has a permutation of its own.
  */
 #include <stdio.h>
 #include <string.h>
@@ -14,7 +15,9 @@ enum {
     KEYS = 2,                        /* one for each volume that is made */
     VOLUME = KEYS - 1, ADDRESS = 11, /* the block that is written */
     /* A formatting, a write that claims a slice, two closes. */
-    TAPE = DEVICE + KEYS * (88 + 16 * M) + B + 2 * KEYS * 16 * M
+    TAKEN = DEVICE + KEYS * (88 + 16 * M) + B + 2 * KEYS * 16 * M,
+    /* Two shuffles, with room for draws that are thrown away. */
+    TAPE = TAKEN + 2 * (2 * P + 512)
 };
 
 static int refused(const char *call, uint8_t answer) {
@@ -25,7 +28,7 @@ static int refused(const char *call, uint8_t answer) {
 int main(void) {
     static uint8_t device[DEVICE], tape[TAPE], owners[P], keys[KEYS * HIWALGAM_KEY_BYTES], block[B], text[B];
     static uint32_t maps[MAPS];
-    const uint32_t permutation[P] = { 2, 0, 3, 1 };
+    uint32_t permutation[P];
     const hiwalgam_geometry geometry = { B, S, P };
     const uint64_t counts[KEYS] = { P, 3 }; /* logical slices: volume 0 has P x S blocks, VOLUME 3 x S */
     const uint8_t *key = keys + VOLUME * HIWALGAM_KEY_BYTES; /* opens VOLUME and all below it */
@@ -33,6 +36,7 @@ int main(void) {
     hiwalgam_written written;
     uint64_t slice;
     size_t position = 0; /* of the tape: a call that takes random bytes moves it on */
+    size_t start, drawn; /* where a shuffle begins, and the bytes that the shuffles took */
     FILE *entropy = fopen("/dev/urandom", "rb");
 
     if (!entropy || fread(tape, 1, TAPE, entropy) != TAPE) return 2;
@@ -42,19 +46,29 @@ int main(void) {
 
     if (refused("format", hiwalgam_format(device, DEVICE, &geometry, sizeof geometry, KEYS, keys, sizeof keys,
             counts, KEYS, tape, TAPE, &position))) return 1;
+    start = position;
+    if (refused("shuffle", hiwalgam_shuffle(&geometry, sizeof geometry, permutation, P,
+            tape, TAPE, &position))) return 1;
+    drawn = position - start;
     if (refused("open", hiwalgam_open(device, DEVICE, &geometry, sizeof geometry, key, HIWALGAM_KEY_BYTES, maps, MAPS,
             owners, P, permutation, P, &session, sizeof session))) return 1;
     if (refused("write", hiwalgam_write(device, DEVICE, maps, MAPS, owners, P, permutation, P, tape, TAPE, &position,
             &session, sizeof session, VOLUME, ADDRESS, text, B, &written, sizeof written))) return 1;
+    if (written.slice != permutation[0]) return 1;
     if (refused("close", hiwalgam_close(device, DEVICE, maps, MAPS, owners, P, tape, TAPE, &position,
             &session, sizeof session))) return 1;
 
     /* Here the device would go to a stick, and come back another day. */
+    start = position;
+    if (refused("shuffle", hiwalgam_shuffle(&geometry, sizeof geometry, permutation, P,
+            tape, TAPE, &position))) return 1;
+    drawn += position - start;
     if (refused("open", hiwalgam_open(device, DEVICE, &geometry, sizeof geometry, key, HIWALGAM_KEY_BYTES, maps, MAPS,
             owners, P, permutation, P, &session, sizeof session))) return 1;
     if (refused("read", hiwalgam_read(device, DEVICE, maps, MAPS, owners, P, &session, sizeof session,
             VOLUME, ADDRESS, block, B))) return 1;
-    if (memcmp(block, text, B) != 0 || session.volume != VOLUME || session.start_place != 1
+    if (memcmp(block, text, B) != 0 || session.volume != VOLUME
+        || session.start_place != (permutation[0] == written.slice)
         || ADDRESS + 1 != session.counts[VOLUME] * S) return 1;
 
     if (refused("release", hiwalgam_release(device, DEVICE, maps, MAPS, owners, P, permutation, P,
@@ -64,5 +78,6 @@ int main(void) {
     if (refused("close", hiwalgam_close(device, DEVICE, maps, MAPS, owners, P, tape, TAPE, &position,
             &session, sizeof session))) return 1;
     memset(text, 0, B);
-    return memcmp(block, text, B) != 0 || slice != written.slice || session.start_place != 0 || position != TAPE;
+    return memcmp(block, text, B) != 0 || slice != written.slice || session.start_place != 0
+        || drawn < 2 * 2 * (P - 1) || drawn % 2 != 0 || position != TAKEN + drawn;
 }

@@ -69,7 +69,7 @@ struct measured {
 
 /* In this order each call is served: the first write claims a slice, the second rewrites a block. */
 static struct measured calls[] = {
-    { "format", call_format, 0, 0 }, { "open", call_open, 0, 0 },
+    { "format", call_format, 0, 0 }, { "shuffle", call_shuffle, 0, 0 }, { "open", call_open, 0, 0 },
     { "write, a claim", call_write, 0, 0 }, { "write, a rewrite", call_write, 0, 0 },
     { "read", call_read, 0, 0 }, { "find", call_find, 0, 0 }, { "release", call_release, 0, 0 },
     { "close", call_close, 0, 0 },

@@ -10,8 +10,8 @@
 #include "hiwalgam.h"
 
 /*
- * A device, which a formatting with 15 keys makes, and what calls take besides. Volume v has v + 1 logical slices, or P where
- * that is fewer.
+ * A device, which a formatting with 15 keys makes, a permutation, which a shuffle makes, and what calls take besides. Volume v
+ * has v + 1 logical slices, or P where that is fewer. The tape is zeros: no draw of a shuffle is thrown away.
  */
 struct stick {
     hiwalgam_geometry geometry;
@@ -68,7 +68,6 @@ static inline struct stick *make_stick(uint64_t block_bytes, uint64_t slice_bloc
     stick->owners = (uint8_t *)zeros(stick->slices, 1);
     stick->permutation = (uint32_t *)zeros(stick->slices, sizeof *stick->permutation);
     stick->tape = (uint8_t *)zeros(stick->tape_length, 1);
-    for (size_t i = 0; i < stick->slices; i++) stick->permutation[i] = (uint32_t)(stick->slices - 1 - i);
     for (size_t i = 0; i < sizeof stick->keys; i++) stick->keys[i] = (uint8_t)(1 + i / HIWALGAM_KEY_BYTES);
     for (size_t v = 0; v < HIWALGAM_VOLUMES; v++) stick->counts[v] = v + 1 < slices ? v + 1 : slices;
     stick->text_length = HIWALGAM_TEXT_LIMIT;
@@ -93,6 +92,12 @@ static inline void call_format(struct stick *s)
     s->answer = hiwalgam_format(s->device, s->device_length, &s->geometry, sizeof s->geometry,
                                 HIWALGAM_VOLUMES, s->keys, sizeof s->keys, s->counts, HIWALGAM_VOLUMES,
                                 s->tape, s->tape_length, &s->position);
+}
+
+static inline void call_shuffle(struct stick *s)
+{
+    s->answer = hiwalgam_shuffle(&s->geometry, sizeof s->geometry, s->permutation, s->slices,
+                                 s->tape, s->tape_length, &s->position);
 }
 
 /* Opens all volumes. */

@@ -3,7 +3,8 @@
  *
  * A device is the image of a stick, held in memory. A key opens a volume and all volumes below it; what
  * lies above is noise. docs/FORMAT.md describes the device, the calls and their refusals. hiwalgam_format
- * makes a device. No function here reads it from a stick or stores it there: that is the caller's.
+ * makes a device, hiwalgam_shuffle the permutation for a session. No function here reads a device from a stick or
+ * stores it there: that is the caller's.
  *
  * Every function takes any arguments and returns HIWALGAM_SERVED or the first refusal that applies, in the
  * order in which its comment lists them. A refused call changes nothing that it was lent, but for the tables
@@ -44,7 +45,7 @@ enum hiwalgam_answer {
     HIWALGAM_BAD_GEOMETRY = 1,    /* B, S or P is not allowed; at formatting also a count, or their number */
     HIWALGAM_DEVICE_LENGTH = 2,   /* the device is not as long as its geometry says */
     HIWALGAM_KEY_LENGTH = 3,      /* the key is not 32 bytes, or the keys not 32 bytes each */
-    HIWALGAM_TABLE_LENGTH = 4,    /* the map table has not 15 x P entries, or the owner table not P */
+    HIWALGAM_TABLE_LENGTH = 4,    /* the map table is not 15 x P long, or the owner table or a shuffled list not P */
     HIWALGAM_BAD_PERMUTATION = 5, /* the permutation does not name each slice once */
     HIWALGAM_NO_CELL = 6,         /* the key opens no key cell */
     HIWALGAM_HEADER_TAG = 7,      /* the tag of a header that is needed is wrong */
@@ -57,7 +58,7 @@ enum hiwalgam_answer {
     HIWALGAM_MALFORMED_LINE = 14, /* of the program slicewalk; no function answers it */
     HIWALGAM_TAG_DIFFERS = 15,    /* the tag is wrong */
     HIWALGAM_NOT_OPEN = 20,       /* the session is closed, or holds numbers that are not allowed */
-    HIWALGAM_TAPE_SHORT = 21,     /* the tape has fewer bytes left than the call takes */
+    HIWALGAM_TAPE_SHORT = 21,     /* the tape ends before the position, or before the last byte that the call takes */
     HIWALGAM_NO_FREE_SLICE = 22,  /* no slice from the start place on is free for a claim */
     HIWALGAM_KEY_COUNT = 23,      /* no key, or more than 15 */
     HIWALGAM_LOWER_CELL = 24,     /* a key opens the cell of a lower volume */
@@ -181,15 +182,35 @@ uint8_t hiwalgam_format(uint8_t *device, size_t device_length,
     HIWALGAM_NOT_NULL(12);
 
 /*
+ * Makes a permutation for a session from the tape: each of the slices 0 to P - 1 once, in an order that is drawn
+ * evenly from all orders where the tape is random. permutation has P entries, whatever they hold before.
+ *
+ * Begins with 0 to P - 1, and exchanges each place, from the last down to place 1, with one drawn from the places 0
+ * to itself. A draw is two bytes of the tape, most significant first. For n places to choose from, a draw at or
+ * above the largest multiple of n that is not above 65,536 is thrown away; any other draw modulo n is the place.
+ * *position is the next unused byte of the tape, and is moved on past the last draw.
+ *
+ * Takes 2 x (P - 1) bytes of the tape, and two more for each draw that is thrown away. Where 2 x P + 512 random
+ * bytes are left, a 21 has a chance below 2^-128 at every P. The time that a call takes depends on its draws.
+ *
+ * Refused by 13 (geometry of another size), 1, 4 (permutation_length is not P), 21. Refused, it leaves permutation
+ * and *position: after a 21 it can be called again with more tape.
+ */
+uint8_t hiwalgam_shuffle(const hiwalgam_geometry *geometry, size_t geometry_size,
+                         uint32_t *permutation, size_t permutation_length,
+                         const uint8_t *tape, size_t tape_length, size_t *position)
+    HIWALGAM_ANSWERS HIWALGAM_OUT(3, 4) HIWALGAM_IN(5, 6) HIWALGAM_NOT_NULL(7);
+
+/*
  * Opens a device with a key: the lowest volume whose key cell the key opens, and all below it.
  *
  * Sets maps, which has 15 x P entries, and owners, which has P. Entry l of volume v stands at maps[v * P + l]:
  * the slice, or HIWALGAM_UNMAPPED, as every entry from the volume's N on is. owners[s] is 0 where slice s is
  * free, and v + 1 where volume v holds it. The session's counts are the N of the open volumes' headers.
  *
- * permutation names each of the slices 0 to P - 1 once, in the order in which claims look for a free one; it is
- * drawn at random for a session, handed to each of its writes and releases, and nothing has to keep it afterwards.
- * The session's start place is its first place whose slice is free, or P.
+ * permutation names each of the slices 0 to P - 1 once, in the order in which claims look for a free one. It is
+ * drawn at random for a session (hiwalgam_shuffle makes one), handed to each of its writes and releases, and
+ * nothing has to keep it afterwards. The session's start place is its first place whose slice is free, or P.
  *
  * Refused by 13 (geometry or session of another size: all stays); by 1, 2, 3, 4 or 5, which leave the tables
  * as they were; by 6, 7, 8, 9 or 10, which set every entry to HIWALGAM_UNMAPPED and every owner to 0. A volume's
