@@ -39,7 +39,8 @@ use crate::{Geometry, Refusal, Tape};
 /// hiwalgam::format(&mut device, geometry, keys.len(), keys.as_flattened(), &counts, &mut tape)?;
 ///
 /// // Key 1 opens the volumes 0 and 1, which are zeros.
-/// let (mut tables, permutation) = (Tables::new(geometry), [2, 0, 3, 1]);
+/// let (mut tables, mut permutation) = (Tables::new(geometry), [0; 4]);
+/// hiwalgam::shuffle(geometry, &mut permutation, &mut tape)?;
 /// let mut session = Session::open(&device, geometry, &keys[1], &mut tables, &permutation)?;
 /// assert_eq!(session.volume(), 1);
 /// assert_eq!([0, 1, 2].map(|volume| session.blocks(volume)), [Some(4), Some(16), None]);

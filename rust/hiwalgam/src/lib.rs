@@ -8,26 +8,30 @@
 //! first [`Refusal`] that applies; the wrapper adds no test of its own. Everything is lent: no call
 //! keeps anything between two calls.
 //!
-//! [`format()`] makes a device whose volumes have the lengths that it is told, [`Session::open`] opens it
-//! with a key, and the session tells how long each volume is, reads, writes, releases slices and closes.
-//! Reading the image from a stick and storing it there is the caller's work.
+//! [`format()`] makes a device whose volumes have the lengths that it is told, [`shuffle`] makes a
+//! permutation for a session, [`Session::open`] opens the device with a key, and the session tells how
+//! long each volume is, reads, writes, releases slices and closes. Reading the image from a stick and
+//! storing it there is the caller's work.
 //!
 //! ```
-//! use hiwalgam::{Block, Change, Geometry, Refusal, Session, Tables, Tape};
+//! use hiwalgam::{shuffle, Block, Change, Geometry, Refusal, Session, Tables, Tape};
 //!
 //! /// Writes a block of volume 0, closes, and reads the block in a second session.
 //! fn keep(device: &mut [u8], key: &[u8], random: &[u8], text: &[u8]) -> Result<(), Refusal> {
 //!     let geometry = Geometry { block_bytes: 1024, slice_blocks: 4, slices: 4 };
-//!     let permutation = [2, 0, 3, 1];
 //!     let block = Block { volume: 0, address: 5 };
-//!     let mut tables = Tables::new(geometry);
+//!     let (mut tables, mut permutation) = (Tables::new(geometry), [0; 4]);
 //!     let mut tape = Tape::new(random);
 //!
+//!     shuffle(geometry, &mut permutation, &mut tape)?;
 //!     let mut session = Session::open(device, geometry, key, &mut tables, &permutation)?;
 //!     let written = session.write(device, &mut tables, &permutation, &mut tape, block, text)?;
-//!     assert_eq!(written.change, Change::Claimed(2));
+//!     // Nothing was mapped: the claim takes the slice at the first place.
+//!     assert_eq!(written.change, Change::Claimed(permutation[0].into()));
 //!     session.close(device, &mut tables, &mut tape)?;
 //!
+//!     // Each session has an order of its own.
+//!     shuffle(geometry, &mut permutation, &mut tape)?;
 //!     let session = Session::open(device, geometry, key, &mut tables, &permutation)?;
 //!     let mut buffer = [0; 1024];
 //!     session.read(device, &tables, block, &mut buffer)?;
@@ -49,11 +53,13 @@
 //! - **Time.** Nothing is proved of it. Counter mode of 192 bytes and more, and so every read, write and
 //!   close, has no look-up and no branch that depends on key or text, which is tested on the compiled
 //!   code. GCM, and so an opening and a formatting, and counter mode of shorter texts look into a table:
-//!   how long they take, and which cache lines they touch, depends on key and data.
+//!   how long they take, and which cache lines they touch, depends on key and data. With a
+//!   shuffle both depend on what is drawn.
 //! - **Authentic blocks.** Key cells and headers carry tags. Maps and data blocks do not: whoever
 //!   alters the device alters what is read from them.
 //! - **Random bytes.** The caller draws them, and uses none for two calls: two texts under one key
-//!   and IV betray each other, and the tape of a formatting holds the keys of its volumes.
+//!   and IV betray each other, the tape of a formatting holds the keys of its volumes, and that of a
+//!   shuffle its permutation.
 //! - **Two sessions at once.** What is proved holds where, from an opening to its close, nothing but
 //!   these calls alters device, tables, tape position and session.
 //! - **Erased bytes.** A release leaves the bytes of its slice on the device, and whoever has the
@@ -75,6 +81,7 @@ mod ciphers;
 mod formatting;
 mod refusal;
 mod session;
+mod shuffling;
 pub mod sys;
 mod types;
 
@@ -82,6 +89,7 @@ pub use ciphers::{counter_mode, gcm_open, gcm_seal, keystream_at};
 pub use formatting::format;
 pub use refusal::Refusal;
 pub use session::Session;
+pub use shuffling::shuffle;
 pub use sys::Geometry;
 pub use sys::{GCM_AAD_LIMIT, GCM_TEXT_LIMIT, POSITION_LIMIT, TEXT_LIMIT};
 pub use sys::{GCM_IV_BYTES, GCM_TAG_BYTES, IV_BYTES, KEY_BYTES, UNMAPPED, VOLUMES};

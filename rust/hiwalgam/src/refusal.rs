@@ -17,7 +17,8 @@ pub enum Refusal {
     DeviceLength = 2,
     /// The key is not 32 bytes, or the keys to format with are not 32 bytes each.
     KeyLength = 3,
-    /// The map table has not 15 entries for each slice, or the owner table not one.
+    /// The map table has not 15 entries for each slice, or the owner table not one; at a shuffle the list
+    /// has not one.
     TableLength = 4,
     /// The permutation does not name each slice once.
     BadPermutation = 5,
@@ -103,7 +104,9 @@ impl Refusal {
             }
             Refusal::DeviceLength => "the device is not as long as the geometry says",
             Refusal::KeyLength => "a key is not 32 bytes",
-            Refusal::TableLength => "the map table or the owner table has a wrong length",
+            Refusal::TableLength => {
+                "the map table, the owner table or the list to shuffle has a wrong length"
+            }
             Refusal::BadPermutation => "the permutation does not name each slice once",
             Refusal::NoCell => "the key opens no key cell",
             Refusal::HeaderTag => "the tag of a header is wrong",

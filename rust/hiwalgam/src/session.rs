@@ -28,8 +28,9 @@ pub struct Session(sys::Session);
 
 impl Session {
     /// Opens a device: the lowest volume whose key cell `key` opens, and all below it. The
-    /// permutation names each slice once; claims take the first free one in its order. Its place is
-    /// the start place, which is P where no slice is free.
+    /// permutation names each slice once, as [`shuffle`](crate::shuffle) makes it from the tape; claims
+    /// take the first free one in its order. Its place is the start place, which is P where no slice is
+    /// free.
     ///
     /// Refused by 1, 2, 3, 4, 5 (the tables stay), 6, 7, 8, 9, 10 (they become empty). A 9 is also an
     /// entry that is mapped at or past its volume's N.
@@ -182,6 +183,7 @@ impl Session {
     ///
     /// # let random = vec![0x5a; 60_000];
     /// let geometry = Geometry { block_bytes: 1024, slice_blocks: 4, slices: 2 };
+    /// // A given order, for slices that the example can name.
     /// let (key, permutation, text) = ([7; 32], [1, 0], [3; 1024]);
     /// let (mut tape, mut device) = (Tape::new(&random), vec![0; geometry.device_length()]);
     /// hiwalgam::format(&mut device, geometry, 1, &key, &[2], &mut tape)?;

@@ -141,6 +141,16 @@ extern "C" {
         tape: *const u8, tape_length: usize, position: *mut usize,
     ) -> u8;
 
+    /// Sets `permutation`, which has P entries, to the slices 0 to P - 1 in an order that is drawn from a
+    /// tape. It needs no value before. A draw takes two bytes of the tape, and some are thrown away.
+    ///
+    /// Refused by 13 (geometry of another size), 1, 4, 21; the list and `*position` stay then.
+    pub fn hiwalgam_shuffle(
+        geometry: *const Geometry, geometry_size: usize,
+        permutation: *mut u32, permutation_length: usize,
+        tape: *const u8, tape_length: usize, position: *mut usize,
+    ) -> u8;
+
     /// Opens a device with a key: the lowest volume whose cell the key opens, and all below it. The
     /// session's start place is the first place of the permutation whose slice is free, or P, and its
     /// counts are those of the headers.

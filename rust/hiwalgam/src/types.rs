@@ -82,12 +82,12 @@ impl Tables {
 
 /// Random bytes, each of which is used once, and the position of the next one that is unused.
 ///
-/// The bytes become IVs, and those of a formatting also the keys of its volumes. `Debug` does not
-/// show them.
+/// The bytes become IVs, those of a formatting also the keys of its volumes, and those of a shuffle the
+/// order of a permutation. `Debug` does not show them.
 pub struct Tape<'a> {
     /// The whole tape, the used bytes included.
     pub bytes: &'a [u8],
-    /// The next unused byte. A served formatting, write or close moves it on.
+    /// The next unused byte. A served formatting, shuffle, write or close moves it on.
     pub position: usize,
 }
 

@@ -11,7 +11,8 @@ pub enum Refusal {
     DeviceLength = 2,
     /// The key is not 32 bytes, or the keys are not 32 bytes each.
     KeyLength = 3,
-    /// The map table is not 15 x P entries, or the owner table not P bytes.
+    /// The map table is not 15 x P entries, the owner table not P bytes, or the list to shuffle not P
+    /// numbers.
     TableLength = 4,
     /// The permutation is not P long, or does not name each slice once.
     BadPermutation = 5,

@@ -12,7 +12,7 @@ use std::time::Instant;
 use hiwalgam::{Block, Tables, Tape};
 use hiwalgam_reference::geometry::Geometry;
 use hiwalgam_reference::session::{self, Stored};
-use hiwalgam_reference::{formatting, opening, requests};
+use hiwalgam_reference::{formatting, opening, requests, shuffling};
 use hiwalgam_tests::inputs::Random;
 use hiwalgam_tests::interface::{Target, UNMAPPED, VOLUMES};
 use hiwalgam_tests::stick::Stick;
@@ -40,6 +40,8 @@ const TURN_SECONDS: f64 = 0.001;
 /// Rows whose ratios to one another are printed.
 const RELEASE: &str = "release, P 256";
 const LARGE_RELEASE: &str = "release, P 4096";
+const SHUFFLE: &str = "shuffle, P 256";
+const LARGE_SHUFFLE: &str = "shuffle, P 4096";
 const OPEN: &str = "open, P 256";
 const LARGE_OPEN: &str = "open, P 4096";
 
@@ -54,6 +56,9 @@ struct Bench {
     permutation: Vec<u32>,
     tables: Tables,
     tape: Vec<u8>,
+    /// A tape for shuffles, and the list that they set.
+    draws: Vec<u8>,
+    shuffled: Vec<u32>,
     buf: Vec<u8>,
     /// A block whose logical slice is mapped, unless the stick is blank, and one whose is not.
     mapped: Target,
@@ -111,6 +116,9 @@ impl Bench {
             permutation,
             tables: Tables::new(geometry),
             tape: random.bytes(layout.b).to_vec(),
+            // Twice as many as where no draw is thrown away.
+            draws: random.bytes(4 * layout.p).to_vec(),
+            shuffled: vec![0; layout.p],
             buf: vec![0; layout.b],
             mapped,
             unmapped,
@@ -135,6 +143,9 @@ trait Session: Sized {
 
     /// Releases a logical slice of a volume, and gives the slice freed.
     fn release(&mut self, bench: &mut Bench, place: (usize, usize)) -> usize;
+
+    /// Makes a permutation from the tape for shuffles, and gives the bytes used.
+    fn shuffle(bench: &mut Bench) -> usize;
 
     /// Gives the start place.
     fn start_place(&self) -> usize;
@@ -174,6 +185,11 @@ fn release<S: Session>(session: &mut S, bench: &mut Bench) {
     assert_eq!(session.start_place(), start);
     bench.tables.maps[volume * bench.layout.p + logical] = slice as u32;
     bench.tables.owners[slice] = volume as u8 + 1;
+}
+
+/// A shuffle, which takes no session.
+fn shuffle<S: Session>(_: &mut S, bench: &mut Bench) {
+    S::shuffle(bench);
 }
 
 /// A close, after which the tables are put back.
@@ -229,6 +245,12 @@ impl Session for Library {
         let (volume, logical) = (volume as u64, logical as u64);
         let slice = self.0.release(device, tables, order, volume, logical);
         slice.unwrap() as usize
+    }
+
+    fn shuffle(bench: &mut Bench) -> usize {
+        let mut tape = Tape::new(&bench.draws);
+        hiwalgam::shuffle(bench.geometry, &mut bench.shuffled, &mut tape).unwrap();
+        tape.position
     }
 
     fn start_place(&self) -> usize {
@@ -313,6 +335,13 @@ impl Session for Reference {
         requests::release(device, tables, order, &mut self.0, volume, logical).unwrap()
     }
 
+    fn shuffle(bench: &mut Bench) -> usize {
+        let mut tape = reference_tape(&bench.draws);
+        let numbers = reference_numbers(bench.geometry);
+        shuffling::shuffle(numbers, &mut bench.shuffled, &mut tape).unwrap();
+        tape.position
+    }
+
     fn start_place(&self) -> usize {
         self.0.start_place
     }
@@ -386,6 +415,15 @@ fn looks_to_fill(bench: &Bench) -> usize {
     let mut bench = bench.clone();
     let mut session = Library::opened(&mut bench);
     fill_with(&mut session, &mut bench, false)
+}
+
+/// The draws that a shuffle throws away. Both implementations must make the same permutation.
+fn thrown_away(bench: &Bench) -> usize {
+    let (mut bench, mut other) = (bench.clone(), bench.clone());
+    let used = Library::shuffle(&mut bench);
+    assert_eq!(used, Reference::shuffle(&mut other));
+    assert!(bench.shuffled == other.shuffled, "reference");
+    used / 2 - (bench.layout.p - 1)
 }
 
 /// What is lent to a formatting: a device of 64 MiB, and 15 keys.
@@ -518,6 +556,8 @@ fn all_calls<S: Session + 'static>(small: &Bench, large: &Bench) -> Vec<Measured
         Measured::on(small, "close, P 256", close::<S>),
         Measured::on(small, OPEN, open::<S>),
         Measured::on(large, LARGE_OPEN, open::<S>),
+        Measured::on(small, SHUFFLE, shuffle::<S>),
+        Measured::on(large, LARGE_SHUFFLE, shuffle::<S>),
     ]
 }
 
@@ -563,6 +603,7 @@ fn main() {
     let mut random = Random::seeded();
     let small = Bench::new(&mut random, B, 4, 256);
     let large = Bench::new(&mut random, B, 1, 4096);
+    let thrown = thrown_away(&large);
     let mut library = all_calls::<Library>(&small, &large);
     let mut reference = all_calls::<Reference>(&small, &large);
     for _ in 0..ROUNDS {
@@ -621,6 +662,7 @@ fn main() {
         "A filling is of {FILL_P} claims on a blank stick, B {FILL_B}, S 1; medians of {FILL_ROUNDS} rounds."
     );
     println!("A release is of the last slice of the permutation that is held.");
+    println!("A shuffle is from random bytes, and at P 4096 throws {thrown} draws away.");
     println!("Times of one call in microseconds; ratios are of times in the same round.\n");
     println!("call              library    reference  library/reference");
     for (library, reference) in library.iter().zip(&reference) {
@@ -664,6 +706,14 @@ fn main() {
         (
             "release P 4096 / P 256, reference",
             ratio_of(&reference, LARGE_RELEASE, RELEASE),
+        ),
+        (
+            "shuffle P 4096 / P 256, library",
+            ratio_of(&library, LARGE_SHUFFLE, SHUFFLE),
+        ),
+        (
+            "shuffle P 4096 / P 256, reference",
+            ratio_of(&reference, LARGE_SHUFFLE, SHUFFLE),
         ),
     ] {
         println!("{name:<36} {ratio:.3}");

@@ -137,7 +137,7 @@ pub trait Ciphers: Debug {
     ) -> Answer;
 }
 
-/// The seven calls of one implementation of the engine.
+/// The eight calls of one implementation of the engine.
 pub trait Engine: Debug {
     /// `numbers` are B, S and P. For each of the volumes `keys` is to hold a key, end to end, and
     /// `counts` its N.
@@ -150,6 +150,9 @@ pub trait Engine: Debug {
         counts: &[usize],
         tape: &mut Tape,
     ) -> Answer;
+
+    /// `numbers` are B, S and P. Whatever `permutation` holds is replaced.
+    fn shuffle(&self, numbers: [usize; 3], permutation: &mut [u32], tape: &mut Tape) -> Answer;
 
     /// `numbers` are B, S and P. Whatever `session` holds is replaced.
     fn open(

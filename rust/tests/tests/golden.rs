@@ -78,6 +78,15 @@ impl Files {
     fn part(&self, file: &str, offset: &str, length: &str) -> &[u8] {
         &self.whole(file)[number(offset)..][..number(length)]
     }
+
+    /// Entries that stand in a file with two bytes each, most significant first.
+    fn entries(&self, file: &str, offset: &str, count: &str) -> Vec<u32> {
+        let bytes = &self.whole(file)[number(offset)..][..2 * number(count)];
+        let pairs = bytes.chunks_exact(2);
+        pairs
+            .map(|pair| u16::from_be_bytes([pair[0], pair[1]]).into())
+            .collect()
+    }
 }
 
 // ---- states
@@ -137,6 +146,10 @@ impl State {
                 self.owners[number(slice)] = owner.parse().expect("an owner");
             }
             ["permutation", ref slices @ ..] => self.permutation = Guarded::new(&entries(slices)),
+            ["order", file, offset, count] => {
+                self.permutation = Guarded::new(&files.entries(file, offset, count));
+            }
+            ["tape", bytes] => self.tape = Guarded::new(&hexadecimal(bytes)),
             ["tape", file, offset, length] => {
                 self.tape = Guarded::new(files.part(file, offset, length));
             }
@@ -176,12 +189,13 @@ impl State {
             position: self.position,
         };
         let (device, session, permutation) =
-            (&mut self.device, &mut self.session, &self.permutation);
+            (&mut self.device, &mut self.session, &mut self.permutation);
         let target = |volume, address| Target {
             volume: number(volume),
             address: number(address),
         };
         let got = match *call {
+            ["shuffle"] => shown(engine.shuffle(self.geometry, permutation, &mut tape)).to_string(),
             ["open", key] => {
                 let (key, numbers) = (Guarded::new(&hexadecimal(key)), self.geometry);
                 let answer = engine.open(device, numbers, &key, &mut tables, permutation, session);

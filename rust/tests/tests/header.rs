@@ -197,7 +197,7 @@ fn declared_functions() -> Functions {
 #[test]
 fn functions_are_the_headers() {
     let (functions, _) = header_functions();
-    assert_eq!(functions.len(), 11);
+    assert_eq!(functions.len(), 12);
     assert_eq!(declared_functions(), functions);
 }
 

@@ -5,6 +5,7 @@ use std::error::Error;
 
 use hiwalgam::{sys, Block, Geometry, Refusal, Session, Tables, Tape, WriteRefused};
 use hiwalgam_reference::geometry::Geometry as Layout;
+use hiwalgam_tests::inputs::Random;
 use hiwalgam_tests::stick::format_need;
 
 const GEOMETRY: Geometry = Geometry {
@@ -138,6 +139,30 @@ fn tables_for_any_geometry() {
             _ => Refusal::BadGeometry,
         };
         assert_eq!(opened, Err(refusal), "P {slices}");
+    }
+}
+
+/// A permutation made from 4 x P bytes of a tape, with which an opening gets as far as the key; for numbers
+/// of slices that are not allowed there is none.
+#[test]
+fn permutations_for_any_geometry() {
+    let mut random = Random::seeded();
+    for slices in [0, 1, 2, 3, 4, 253, 4096, 4097, 1 << 32, u64::MAX] {
+        let geometry = Geometry { slices, ..GEOMETRY };
+        let length = slices.min(4097) as usize;
+        let (mut permutation, bytes) = (vec![0; length], random.bytes(4 * length));
+        let mut tape = Tape::new(&bytes);
+        let shuffled = hiwalgam::shuffle(geometry, &mut permutation, &mut tape);
+        if !(1..=4096).contains(&slices) {
+            assert_eq!(shuffled, Err(Refusal::BadGeometry), "P {slices}");
+            continue;
+        }
+        assert_eq!(shuffled, Ok(()), "P {slices}");
+        assert!(tape.position >= 2 * (length - 1), "P {slices}");
+        let device = vec![0; geometry.device_length()];
+        let mut tables = Tables::new(geometry);
+        let opened = Session::open(&device, geometry, &[0; 32], &mut tables, &permutation);
+        assert_eq!(opened, Err(Refusal::NoCell), "P {slices}");
     }
 }
 

@@ -169,6 +169,23 @@ pub fn format(
     answer(number)
 }
 
+/// `hiwalgam_shuffle`.
+#[rustfmt::skip]
+pub fn shuffle(geometry: &Record, permutation: &mut [u32], tape: &mut Tape) -> Answer {
+    let mut position = Guarded::new(&[tape.position]);
+    // SAFETY: each pointer goes with a length for which it is valid.
+    let number = unsafe {
+        sys::hiwalgam_shuffle(
+            geometry.start(), geometry.size,
+            start_mut(permutation), permutation.len(),
+            start(tape.bytes), tape.bytes.len(), start_mut(&mut position),
+        )
+    };
+    assert!(position.is_intact(), "the guards of the position");
+    tape.position = position[0];
+    answer(number)
+}
+
 /// `hiwalgam_open`.
 #[rustfmt::skip]
 pub fn open(
@@ -337,6 +354,16 @@ impl Engine for CFunctions {
         assert!(
             geometry == Record::geometry(numbers),
             "the geometry of a formatting"
+        );
+        answer
+    }
+
+    fn shuffle(&self, numbers: [usize; 3], permutation: &mut [u32], tape: &mut Tape) -> Answer {
+        let geometry = Record::geometry(numbers);
+        let answer = shuffle(&geometry, permutation, tape);
+        assert!(
+            geometry == Record::geometry(numbers),
+            "the geometry of a shuffle"
         );
         answer
     }

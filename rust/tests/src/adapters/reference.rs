@@ -2,7 +2,7 @@
 
 use hiwalgam::Refusal;
 use hiwalgam_reference::session::{self, Refused, Stored};
-use hiwalgam_reference::{aes, ctr, formatting, gcm, opening, refusal, requests};
+use hiwalgam_reference::{aes, ctr, formatting, gcm, opening, refusal, requests, shuffling};
 
 use crate::interface::{Answer, Ciphers, Engine, Session, Tables, Tape, Target, Written, SERVED};
 
@@ -135,6 +135,11 @@ impl Engine for Reference {
         let answer = with_tape(tape, |tape| {
             formatting::format(device, numbers, volumes, keys, counts, tape)
         });
+        answer.map_err(same)
+    }
+
+    fn shuffle(&self, numbers: [usize; 3], permutation: &mut [u32], tape: &mut Tape) -> Answer {
+        let answer = with_tape(tape, |tape| shuffling::shuffle(numbers, permutation, tape));
         answer.map_err(same)
     }
 

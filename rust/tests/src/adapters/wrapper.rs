@@ -137,6 +137,11 @@ impl Engine for Wrapper {
         })
     }
 
+    fn shuffle(&self, numbers: [usize; 3], permutation: &mut [u32], tape: &mut Tape) -> Answer {
+        let geometry = geometry_of(numbers);
+        with_tape(tape, |tape| hiwalgam::shuffle(geometry, permutation, tape))
+    }
+
     fn open(
         &self,
         device: &[u8],

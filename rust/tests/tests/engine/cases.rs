@@ -2,7 +2,7 @@
 
 use std::thread;
 
-use hiwalgam::Refusal::{BadGeometry, DeviceLength, NotOpen, TapeShort};
+use hiwalgam::Refusal::{BadGeometry, DeviceLength, NotOpen, TableLength, TapeShort};
 use hiwalgam_tests::adapters::CFunctions;
 use hiwalgam_tests::inputs::{Guarded, Random};
 use hiwalgam_tests::interface::{Engine, Tables, Tape, SERVED, UNMAPPED, VOLUMES};
@@ -83,8 +83,11 @@ fn any_geometry() {
             let expected = match call {
                 _ if [b, s, p] == [1024, 4, 4] => SERVED,
                 Find => SERVED,
+                // The list has four entries, and no device is lent.
+                Shuffle if allowed && p == 4 => SERVED,
+                Shuffle if allowed => Err(TableLength),
                 _ if allowed => Err(DeviceLength),
-                Format | Open => Err(BadGeometry),
+                Format | Shuffle | Open => Err(BadGeometry),
                 _ => Err(NotOpen),
             };
             let answer = run(call, &mut state.clone());
@@ -118,17 +121,20 @@ fn stack_of_a_call() {
     let stick = Stick::blank(&mut random, layout, VOLUMES);
     let mut state = State::new(&mut random, &stick, VOLUMES - 1);
     // The first call formats anew, and the others take the rest of the tape.
-    state.new_tape(&mut random, format_need(layout, VOLUMES) + 8192);
+    state.new_tape(&mut random, format_need(layout, VOLUMES) + 65_536);
+    let calls = [
+        Format, Shuffle, Open, Read, Write, Write, Read, Find, Release, Close,
+    ];
     let thread = thread::Builder::new().name("calls on 64 KiB of stack".into());
-    thread::scope(|scope| {
-        let calls = || {
-            for call in [Format, Open, Read, Write, Write, Read, Find, Release, Close] {
-                assert_eq!(state.call(call, &CFunctions).answer, SERVED, "{call:?}");
-            }
-        };
-        let running = thread.stack_size(64 * 1024).spawn_scoped(scope, calls);
-        running.unwrap().join().unwrap();
+    // The answers are judged outside: a panic needs more stack.
+    let answers = thread::scope(|scope| {
+        let answers = || calls.map(|call| state.call(call, &CFunctions).answer);
+        let running = thread.stack_size(64 * 1024).spawn_scoped(scope, answers);
+        running.unwrap().join().unwrap()
     });
+    for (call, answer) in calls.iter().zip(answers) {
+        assert_eq!(answer, SERVED, "{call:?}");
+    }
 }
 
 /// What a call only reads may be the same memory: here the tape of a write is its text.

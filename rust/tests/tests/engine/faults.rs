@@ -174,7 +174,7 @@ impl Faults {
         });
     }
 
-    /// 1 for the geometry, with which a formatting and an opening begin.
+    /// 1 for the geometry, with which a formatting, a shuffle and an opening begin.
     fn geometry(&mut self, base: &State) {
         for (field, numbers) in wrong_numbers(base.numbers[0]).iter().enumerate() {
             self.add(BadGeometry, "geometry", numbers, move |state, number| {
@@ -191,6 +191,21 @@ impl Faults {
             state.numbers[1] = s;
         });
         self.device(base.device.len());
+    }
+
+    /// 4 at a shuffle: a list of another length, and an allowed geometry of another number of slices.
+    fn list(&mut self, p: usize) {
+        // Each sets both, so that no two of them make up for each other.
+        let lengths = [0, 1, p - 1, p + 1, 2 * p, 15 * p, 4097];
+        self.add(TableLength, "list", &lengths, move |state, len| {
+            state.numbers[2] = p;
+            state.permutation = state.permutation.resized(len);
+        });
+        let others = [1, p - 1, p + 1, 4096];
+        self.add(TableLength, "other P", &others, move |state, other| {
+            state.numbers[2] = other;
+            state.permutation = state.permutation.resized(p);
+        });
     }
 
     /// 1 for the counts of a formatting of 3 volumes: each of them not allowed, or another number of
@@ -341,6 +356,20 @@ impl Faults {
         faults.keys(base);
         faults.tape(base, format_need(layout, base.volumes));
         faults.lower_cells(base);
+        faults
+    }
+
+    fn of_shuffle(base: &State) -> Self {
+        let p = base.numbers[2];
+        let mut faults = Faults::default();
+        faults.geometry(base);
+        faults.list(p);
+        // Two bytes for each place but the first: with fewer it is short, whatever they are.
+        faults.tape(base, 2 * (p - 1));
+        // A draw of FF FF is thrown away where the number of choices is 3.
+        faults.add(TapeShort, "all thrown away", &[0xff], |state, byte| {
+            state.tape.fill(byte as u8);
+        });
         faults
     }
 
@@ -524,6 +553,13 @@ pub fn with_faults(call: Call, mut test: impl FnMut(&mut Random, &State, &Faults
             base.new_tape(random, format_need(stick.geometry, base.volumes) + 24);
             base.position = 17;
             let faults = Faults::of_format(&base, stick.geometry);
+            return test(random, &base, &faults);
+        }
+        if call == Shuffle {
+            // Some bytes of the tape are used, and as many again are left as where no draw is thrown away.
+            base.tape = random.bytes(17 + 4 * (p - 1));
+            base.position = 17;
+            let faults = Faults::of_shuffle(&base);
             return test(random, &base, &faults);
         }
         if call == Open {

@@ -1,7 +1,7 @@
 //! The proved engine against the reference, on sticks and requests from a seeded generator.
 //! `HIWALGAM_SEED` sets another seed. The C functions, the crate `hiwalgam` and the reference serve
 //! every call, and each call is judged by its answer and by the whole of what was lent: device,
-//! tables, tape position, session and buffers, with the guards around them.
+//! tables, permutation, tape position, session and buffers, with the guards around them.
 
 mod cases;
 mod counts;
@@ -14,6 +14,7 @@ mod refusals;
 mod releases;
 mod requests;
 mod scenarios;
+mod shuffles;
 mod start_places;
 mod state;
 mod two_sticks;

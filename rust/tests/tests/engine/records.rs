@@ -45,12 +45,13 @@ impl Records {
             position: state.position,
         };
         let (tables, tape) = (&mut tables, &mut tape);
-        let (order, target, buf) = (&state.permutation, state.target, &mut state.buf);
+        let (order, target, buf) = (&mut state.permutation, state.target, &mut state.buf);
         let answer = match call {
             Format => {
                 let (volumes, keys, counts) = (state.volumes, &state.keys, &state.counts);
                 c_functions::format(device, &self.geometry, volumes, keys, counts, tape)
             }
+            Shuffle => c_functions::shuffle(&self.geometry, order, tape),
             Open => c_functions::open(device, &self.geometry, &state.key, tables, order, session),
             Read => c_functions::read(device, tables, session, target, buf),
             Find => {
@@ -81,7 +82,7 @@ fn fields(call: Call) -> Vec<Field> {
     let session: Field = |records| &mut records.session;
     let geometry: Field = |records| &mut records.geometry;
     match call {
-        Format => vec![geometry],
+        Format | Shuffle => vec![geometry],
         Open => vec![session, geometry],
         Write => vec![session, |records| &mut records.written],
         Read | Find | Release | Close => vec![session],
@@ -188,7 +189,7 @@ fn check_session(call: Call, state: &mut State, counts: &[usize]) -> Answer {
         (Write, Ok(()) | Err(NoFreeSlice)) => moved(&before, &records.written),
         (Release, Ok(())) => lowered(&before, state.place_of(records.slice)),
         (Close, Ok(())) => closed(&before),
-        (Format | Read | Find | Write | Release | Close, _) => before,
+        (Format | Shuffle | Read | Find | Write | Release | Close, _) => before,
     };
     let set = call == Release && answer == SERVED;
     assert!(set || records.slice == blank, "slice of {call:?}");

@@ -42,6 +42,11 @@ fn refusals_of_format() {
 }
 
 #[test]
+fn refusals_of_shuffle() {
+    refuses(Shuffle);
+}
+
+#[test]
 fn refusals_of_open() {
     refuses(Open);
 }

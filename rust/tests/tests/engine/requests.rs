@@ -98,7 +98,7 @@ fn permutation(random: &mut Random, p: usize) -> Guarded<u32> {
 pub fn spoil(random: &mut Random, state: &mut State) {
     let edge = random.pick(&EDGES);
     let near = |random: &mut Random, len: usize| random.pick(&[0, len / 2, len + 1, 2 * len]);
-    match random.below(32) {
+    match random.below(33) {
         0 => state.session.b = edge,
         1 => state.session.s = edge,
         2 => state.session.p = edge,
@@ -163,6 +163,11 @@ pub fn spoil(random: &mut Random, state: &mut State) {
         29 => {
             let p = state.session.p;
             state.logical = random.pick(&[edge, p.wrapping_sub(1), p, p.wrapping_add(1)]);
+        }
+        30 => {
+            // FF FF is thrown away for every number of choices but the powers of two, 00 00 for none.
+            let byte = random.pick(&[0, 0xff]);
+            state.tape.fill(byte);
         }
         _ => {
             // Mostly in the master block and the headers.

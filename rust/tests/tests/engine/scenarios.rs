@@ -107,7 +107,7 @@ impl Model {
                 self.stored = self.slices.clone();
                 self.changed.clear();
             }
-            Format | Open | Find => {}
+            Format | Shuffle | Open | Find => {}
         }
         if call == Write {
             self.texts.insert(state.target, state.text.to_vec());

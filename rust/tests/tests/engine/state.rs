@@ -14,6 +14,7 @@ use hiwalgam_tests::stick::Stick;
 #[derive(Clone, Copy, PartialEq, Debug)]
 pub enum Call {
     Format,
+    Shuffle,
     Open,
     Read,
     Find,
@@ -23,7 +24,7 @@ pub enum Call {
 }
 use Call::*;
 
-pub const CALLS: [Call; 7] = [Format, Open, Read, Find, Write, Release, Close];
+pub const CALLS: [Call; 8] = [Format, Shuffle, Open, Read, Find, Write, Release, Close];
 
 pub const ENGINES: [&dyn Engine; 3] = [&CFunctions, &Wrapper, &Reference];
 
@@ -36,13 +37,14 @@ pub struct State {
     pub session: Session,
     pub tape: Guarded,
     pub position: usize,
-    /// B, S and P for a formatting and an opening.
+    /// B, S and P for a formatting, a shuffle and an opening.
     pub numbers: [usize; 3],
     /// The keys for a formatting, end to end, the counts of logical slices, and the number of volumes.
     pub keys: Guarded,
     pub counts: Guarded<usize>,
     pub volumes: usize,
     pub key: Guarded,
+    /// The list that a shuffle sets, and the permutation of the other calls.
     pub permutation: Guarded<u32>,
     pub target: Target,
     /// The logical slice of the target's volume that a release is for.
@@ -136,13 +138,14 @@ impl State {
             position: self.position,
         };
         let (tables, tape) = (&mut tables, &mut tape);
-        let (order, target) = (&self.permutation, self.target);
+        let (order, target) = (&mut self.permutation, self.target);
         let written = match call {
             Format => {
                 let (numbers, volumes) = (self.numbers, self.volumes);
                 let (keys, counts) = (&self.keys, &self.counts);
                 Written::of(engine.format(device, numbers, volumes, keys, counts, tape))
             }
+            Shuffle => Written::of(engine.shuffle(self.numbers, order, tape)),
             Open => {
                 let (numbers, key) = (self.numbers, &self.key);
                 Written::of(engine.open(device, numbers, key, tables, order, session))
@@ -176,6 +179,7 @@ impl State {
             ("maps", self.maps == other.maps),
             ("owners", self.owners == other.owners),
             ("session", self.session == other.session),
+            ("permutation", self.permutation == other.permutation),
             ("position", self.position == other.position),
             ("buffer", self.buf == other.buf),
             ("found", self.found == other.found),
@@ -237,7 +241,8 @@ pub fn run(call: Call, state: &mut State) -> Answer {
 }
 
 /// What a call with this answer leaves of `state`: by the rules, and only for ciphertexts, tags, read
-/// texts and a served opening from `after`. Also the places of the device that it writes.
+/// texts, a served opening and the list of a shuffle from `after`. Also the places of the device that it
+/// writes.
 fn effect(
     mut state: State,
     call: Call,
@@ -246,6 +251,8 @@ fn effect(
 ) -> (State, Vec<Range<usize>>) {
     let places = match (call, answer.answer) {
         (Format, Ok(())) => after_format(&mut state, after),
+        (Shuffle, Ok(())) => after_shuffle(&mut state, after),
+        (Shuffle, Err(Refusal::TapeShort)) => after_short_tape(&state),
         (Open, Ok(())) => after_opening(&mut state, after),
         (Open, Err(refusal)) => after_refused_opening(&mut state, refusal),
         (Read, Ok(())) => {
@@ -257,7 +264,7 @@ fn effect(
         (Write, Err(Refusal::NoFreeSlice)) => after_search(&mut state, answer),
         (Release, Ok(())) => after_release(&mut state, answer),
         (Close, Ok(())) => after_close(&mut state, after),
-        (Format | Read | Write | Release | Close, Err(_)) => Vec::new(),
+        (Format | Shuffle | Read | Write | Release | Close, Err(_)) => Vec::new(),
     };
     for place in &places {
         state.device[place.clone()].copy_from_slice(&after.device[place.clone()]);
@@ -294,6 +301,45 @@ fn after_format(state: &mut State, after: &State) -> Vec<Range<usize>> {
     assert!(after.device[..] == device, "tape bytes on the device");
     let whole = 0..device.len();
     vec![whole]
+}
+
+/// The places that a shuffle of P numbers draws for its places from the last down, and the position after
+/// it. None where the tape ends first.
+fn places_drawn(p: usize, tape: &[u8], position: usize) -> Option<(Vec<usize>, usize)> {
+    let (draws, _) = tape.get(position..)?.as_chunks();
+    let (mut draws, mut used) = (draws.iter(), 0);
+    let places = (2..=p).rev().map(|choices| loop {
+        let draw = usize::from(u16::from_be_bytes(*draws.next()?));
+        used += 2;
+        if draw + 65_536 % choices < 65_536 {
+            return Some(draw % choices);
+        }
+    });
+    let places: Option<Vec<usize>> = places.collect();
+    Some((places?, position + used))
+}
+
+/// The position is after the last byte used, and in the list all exchanges with the places drawn, undone
+/// from the last on, leave the numbers in order.
+fn after_shuffle(state: &mut State, after: &State) -> Vec<Range<usize>> {
+    let p = state.numbers[2];
+    let drawn = places_drawn(p, &state.tape, state.position);
+    let (places, position) = drawn.expect("a tape that is long enough");
+    let mut undone = after.permutation.to_vec();
+    for (place, &other) in (1..p).zip(places.iter().rev()) {
+        undone.swap(place, other);
+    }
+    assert!(undone.iter().copied().eq(0..p as u32), "a shuffle, P {p}");
+    state.permutation = Guarded::new(&after.permutation);
+    state.position = position;
+    Vec::new()
+}
+
+/// A shuffle is refused by 21 only where the tape ends first.
+fn after_short_tape(state: &State) -> Vec<Range<usize>> {
+    let drawn = places_drawn(state.numbers[2], &state.tape, state.position);
+    assert_eq!(drawn, None, "a tape that is too short");
+    Vec::new()
 }
 
 fn after_opening(state: &mut State, after: &State) -> Vec<Range<usize>> {
