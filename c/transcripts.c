@@ -261,11 +261,12 @@ static void compare(struct bench *bench)
 /* ---- Calls ---------------------------------------------------------------------------------------------------- */
 
 enum function {
-    OPEN, READ, FIND, WRITE, RELEASE, CLOSE, FORMAT, COUNTER_MODE, KEYSTREAM_AT, GCM_SEAL, GCM_OPEN, FUNCTIONS
+    OPEN, READ, FIND, WRITE, RELEASE, CLOSE, FORMAT, SHUFFLE, COUNTER_MODE, KEYSTREAM_AT, GCM_SEAL, GCM_OPEN, FUNCTIONS
 };
 
 static const char *const FUNCTION_NAMES[FUNCTIONS] = {
-    "open", "read", "find", "write", "release", "close", "format", "counter_mode", "keystream_at", "gcm_seal", "gcm_open"
+    "open", "read", "find", "write", "release", "close", "format", "shuffle", "counter_mode", "keystream_at", "gcm_seal",
+    "gcm_open"
 };
 
 #define BIT(part) (1u << (part))
@@ -279,6 +280,7 @@ static const unsigned TAKES[FUNCTIONS] = {
     BIT(DEVICE) | BIT(MAPS) | BIT(OWNERS) | BIT(PERMUTATION) | BIT(SESSION),
     BIT(DEVICE) | BIT(MAPS) | BIT(OWNERS) | BIT(TAPE) | BIT(SESSION),
     BIT(DEVICE) | BIT(GEOMETRY) | BIT(KEY) | BIT(COUNTS) | BIT(TAPE),
+    BIT(GEOMETRY) | BIT(PERMUTATION) | BIT(TAPE),
     BIT(KEY) | BIT(IV) | BIT(TEXT) | BIT(BUFFER),
     BIT(KEY) | BIT(IV) | BIT(TEXT) | BIT(BUFFER),
     BIT(KEY) | BIT(IV) | BIT(AAD) | BIT(TEXT) | BIT(BUFFER) | BIT(TAG),
@@ -388,6 +390,13 @@ static uint8_t call_format(struct bench *b)
                            bytes_of(b, TAPE), length_of(b, TAPE), (size_t *)(void *)bytes_of(b, POSITION));
 }
 
+static uint8_t call_shuffle(struct bench *b)
+{
+    return hiwalgam_shuffle((const hiwalgam_geometry *)(void *)bytes_of(b, GEOMETRY), length_of(b, GEOMETRY),
+                            numbers_of(b, PERMUTATION), count_of(b, PERMUTATION),
+                            bytes_of(b, TAPE), length_of(b, TAPE), (size_t *)(void *)bytes_of(b, POSITION));
+}
+
 static uint8_t call_counter_mode(struct bench *b)
 {
     return hiwalgam_counter_mode(bytes_of(b, KEY), length_of(b, KEY), bytes_of(b, IV), length_of(b, IV),
@@ -426,6 +435,7 @@ static size_t call(struct bench *bench, int function)
     case RELEASE: return call_release(bench);
     case CLOSE: return call_close(bench);
     case FORMAT: return call_format(bench);
+    case SHUFFLE: return call_shuffle(bench);
     case COUNTER_MODE: return call_counter_mode(bench);
     case KEYSTREAM_AT: return call_keystream_at(bench);
     case GCM_SEAL: return call_gcm_seal(bench);
@@ -671,11 +681,11 @@ static struct bytes take_counts(struct words *words)
     return counts;
 }
 
-static struct bytes take_key(struct words *words)
+static struct bytes take_hex(struct words *words)
 {
-    struct bytes key = from_hex(take_this(words, "-") ? "" : take_word(words));
-    if (key.at == NULL) words->wrong = 1;
-    return key;
+    struct bytes bytes = from_hex(take_this(words, "-") ? "" : take_word(words));
+    if (bytes.at == NULL) words->wrong = 1;
+    return bytes;
 }
 
 /* Bytes of a file of the folder; words that ask for bytes that it has not are wrong. */
@@ -814,9 +824,28 @@ static void set_permutation(struct bench *bench, struct words *words, int given)
     set_whole(bench, words, given, PERMUTATION, take_entries(words));
 }
 
+/* The permutation, whose entries stand in a file with two bytes each, most significant first. */
+static void set_order(struct bench *bench, struct words *words, int given)
+{
+    const char *name = take_word(words);
+    size_t offset = take_length(words);
+    size_t count = (size_t)take_number(words, 1u << 20);
+    struct bytes part = part_of_file(bench, words, name, offset, 2 * count);
+    struct bytes entries = new_bytes(count * sizeof(uint32_t));
+
+    take_end(words);
+    for (size_t i = 0; i < count && !words->wrong; i++) {
+        uint32_t entry = 256u * part.at[2 * i] + part.at[2 * i + 1];
+        memcpy(entries.at + i * sizeof entry, &entry, sizeof entry);
+    }
+    free(part.at);
+    set_whole(bench, words, given, PERMUTATION, entries);
+}
+
+/* The tape: bytes of a file, or those that the one word stands for. */
 static void set_tape(struct bench *bench, struct words *words, int given)
 {
-    struct bytes tape = take_part_of_file(bench, words);
+    struct bytes tape = words_left(words) == 1 ? take_hex(words) : take_part_of_file(bench, words);
     take_end(words);
     set_whole(bench, words, given, TAPE, tape);
 }
@@ -848,7 +877,7 @@ static void set_session(struct bench *bench, struct words *words, int given)
     else memcpy(session.counts, counts.at, counts.length);
     free(counts.at);
     for (size_t i = 0; words_left(words) != 0 && !words->wrong; i++) {
-        struct bytes key = take_key(words);
+        struct bytes key = take_hex(words);
         if (i == HIWALGAM_VOLUMES || key.length != HIWALGAM_KEY_BYTES) words->wrong = 1;
         else if (!words->wrong) memcpy(session.keys + i * HIWALGAM_KEY_BYTES, key.at, key.length);
         free(key.at);
@@ -888,8 +917,8 @@ struct line_kind {
 static const struct line_kind LINE_KINDS[] = {
     { "device", set_device }, { "zeros", set_zeros }, { "bytes", set_bytes }, { "geometry", set_geometry },
     { "maps", set_maps }, { "row", set_row }, { "entry", set_entry }, { "owners", set_owners },
-    { "owner", set_owner }, { "permutation", set_permutation }, { "tape", set_tape }, { "position", set_position },
-    { "session", set_session }, { "start", set_start }, { "count", set_count }
+    { "owner", set_owner }, { "permutation", set_permutation }, { "order", set_order }, { "tape", set_tape },
+    { "position", set_position }, { "session", set_session }, { "start", set_start }, { "count", set_count }
 };
 
 static void set_part(struct bench *bench, struct words *words, int given)
@@ -906,7 +935,7 @@ static void set_part(struct bench *bench, struct words *words, int given)
 
 static void line_open(struct bench *bench, struct words *words)
 {
-    struct bytes key = take_key(words);
+    struct bytes key = take_hex(words);
     uint64_t answer, volume = 0;
     hiwalgam_session session;
 
@@ -1024,14 +1053,15 @@ static void line_release(struct bench *bench, struct words *words)
     check_answer(bench, RELEASE, (size_t)answer);
 }
 
-static void line_close(struct bench *bench, struct words *words)
+/* A call without words of its own, and with an answer of one number: a close or a shuffle. */
+static void line_alone(struct bench *bench, struct words *words, int function)
 {
     uint64_t answer;
 
     take_equals(words);
     answer = take_number(words, UINT8_MAX);
     take_end(words);
-    if (!words->wrong) check_answer(bench, CLOSE, (size_t)answer);
+    if (!words->wrong) check_answer(bench, function, (size_t)answer);
 }
 
 static void line_format(struct bench *bench, struct words *words)
@@ -1040,7 +1070,7 @@ static void line_format(struct bench *bench, struct words *words)
     uint64_t answer;
 
     bench->volumes = (size_t)take_number(words, UINT64_MAX);
-    keys = take_key(words);
+    keys = take_hex(words);
     counts = take_counts(words);
     take_equals(words);
     answer = take_number(words, UINT8_MAX);
@@ -1092,8 +1122,9 @@ static void run_line(struct bench *bench, struct words *words, int *compare_is_d
         else if (take_this(words, "find")) line_find(bench, words);
         else if (take_this(words, "write")) line_write(bench, words);
         else if (take_this(words, "release")) line_release(bench, words);
-        else if (take_this(words, "close")) line_close(bench, words);
+        else if (take_this(words, "close")) line_alone(bench, words, CLOSE);
         else if (take_this(words, "format")) line_format(bench, words);
+        else if (take_this(words, "shuffle")) line_alone(bench, words, SHUFFLE);
         else words->wrong = 1;
     }
 }
@@ -1184,7 +1215,7 @@ static const char SMALL_DATA_KEYS[] =
 
 /*
  * Lends small.img, opened with the key of its volume 2, and everything else that a call takes; keeps all that. The tape
- * is long enough to format the device with that key.
+ * is long enough to format the device with that key, and for a shuffle.
  */
 static int open_small(struct bench *bench)
 {
@@ -1210,6 +1241,8 @@ static int open_small(struct bench *bench)
     check_answer(bench, OPEN, HIWALGAM_SERVED);
     keep_all(bench);
     check_answer(bench, FORMAT, HIWALGAM_SERVED);
+    put_all_back(bench);
+    check_answer(bench, SHUFFLE, HIWALGAM_SERVED);
     put_all_back(bench);
     return bench->failed == 0;
 }
@@ -1274,7 +1307,7 @@ static void case_two_sizes(struct bench *bench, int function, int part, int othe
 static void group_struct_sizes(struct bench *bench)
 {
     if (!open_small(bench)) return;
-    for (int function = OPEN; function <= FORMAT; function++)
+    for (int function = OPEN; function <= SHUFFLE; function++)
         for (int part = 0; part < PARTS; part++) {
             if (!is_struct(part) || !takes(function, part)) continue;
             for (int which = 0; which < SIZES; which++) {
@@ -1305,7 +1338,8 @@ static const struct refusal NULL_REFUSALS[] = {
     { RELEASE, SESSION, 13 }, { RELEASE, DEVICE, 2 }, { RELEASE, MAPS, 4 }, { RELEASE, OWNERS, 4 },
     { RELEASE, PERMUTATION, 5 },
     { CLOSE, SESSION, 13 }, { CLOSE, DEVICE, 2 }, { CLOSE, MAPS, 4 }, { CLOSE, OWNERS, 4 }, { CLOSE, TAPE, 21 },
-    { FORMAT, GEOMETRY, 13 }, { FORMAT, COUNTS, 1 }, { FORMAT, DEVICE, 2 }, { FORMAT, KEY, 3 }, { FORMAT, TAPE, 21 }
+    { FORMAT, GEOMETRY, 13 }, { FORMAT, COUNTS, 1 }, { FORMAT, DEVICE, 2 }, { FORMAT, KEY, 3 }, { FORMAT, TAPE, 21 },
+    { SHUFFLE, GEOMETRY, 13 }, { SHUFFLE, PERMUTATION, 4 }, { SHUFFLE, TAPE, 21 }
 };
 
 static size_t answer_with_null(int function, unsigned nulls)
@@ -1346,7 +1380,7 @@ static void case_null(struct bench *bench, int function, unsigned nulls, uint64_
 static void group_null(struct bench *bench)
 {
     if (!open_small(bench)) return;
-    for (int function = OPEN; function <= FORMAT; function++)
+    for (int function = OPEN; function <= SHUFFLE; function++)
         for (unsigned nulls = 1; nulls < BIT(PARTS); nulls++) {
             if ((nulls & ~TAKES[function]) != 0) continue;
             case_null(bench, function, nulls, SMALL_MAPPED, 1);
@@ -1741,6 +1775,66 @@ static void group_releases(struct bench *bench)
         case_refused_release(bench, start_place);
     }
     case_permutations(bench);
+}
+
+/* ---- Cases: shuffles ------------------------------------------------------------------------------------------ */
+
+/* Lends what a shuffle takes: a list of so many places, none of which is a slice, and a tape of zeros. */
+static void lend_shuffle(struct bench *bench, size_t slices, size_t tape_length, size_t position)
+{
+    const hiwalgam_geometry geometry = { SMALL_B, 1, slices };
+
+    lend(bench, GEOMETRY, &geometry, sizeof geometry);
+    lend_filled(bench, PERMUTATION, slices * sizeof(uint32_t), UNSET_BYTE);
+    lend_filled(bench, TAPE, tape_length, 0);
+    lend(bench, POSITION, &position, sizeof position);
+}
+
+/* Expects what draws of 0 lead to: 1 to P - 1, and 0 last. */
+static void expect_shuffled(struct bench *bench, size_t slices, size_t position)
+{
+    for (size_t place = 0; place < slices; place++) {
+        const uint32_t slice = (uint32_t)((place + 1) % slices);
+        memcpy(bench->parts[PERMUTATION].expected.at + place * sizeof slice, &slice, sizeof slice);
+    }
+    expect(bench, POSITION, &position, sizeof position);
+}
+
+/* A tape that ends with the last draw, from an even and from an odd position, and one that ends a byte before. */
+static void case_shuffle(struct bench *bench, size_t slices)
+{
+    const size_t used = 2 * (slices - 1);
+
+    for (size_t position = 2; position <= 3; position++) {
+        lend_shuffle(bench, slices, position + used, position);
+        expect_shuffled(bench, slices, position + used);
+        check_call(bench, SHUFFLE, HIWALGAM_SERVED);
+        lend_shuffle(bench, slices, position + used - 1, position);
+        check_call(bench, SHUFFLE, HIWALGAM_TAPE_SHORT);
+    }
+}
+
+/* NULL for a tape of no bytes: one slice needs none, but a position that is not past its end. */
+static void case_shuffle_without_tape(struct bench *bench)
+{
+    const size_t positions[] = { 0, 1, 2, (size_t)1 << 32, SIZE_MAX - 1, SIZE_MAX };
+
+    for (size_t slices = 1; slices <= 2; slices++)
+        for (size_t i = 0; i < sizeof positions / sizeof *positions; i++) {
+            int served = slices == 1 && positions[i] == 0;
+            lend_shuffle(bench, slices, 0, positions[i]);
+            lend_null(bench, TAPE);
+            if (served) expect_shuffled(bench, slices, 0);
+            check_call(bench, SHUFFLE, served ? HIWALGAM_SERVED : HIWALGAM_TAPE_SHORT);
+        }
+}
+
+/* Every number of slices to 300, and some up to 4,096; a session beside it keeps its bytes. */
+static void group_shuffles(struct bench *bench)
+{
+    if (!open_small(bench)) return;
+    for (size_t slices = 1; slices <= 4096; slices += slices < 300 ? 1 : 73) case_shuffle(bench, slices);
+    case_shuffle_without_tape(bench);
 }
 
 /* ---- Cases: counts -------------------------------------------------------------------------------------------- */
@@ -2378,6 +2472,15 @@ static void case_permutation_in_device(struct bench *bench)
     case_shared(bench, RELEASE, PERMUTATION, DEVICE);
 }
 
+/* The geometry of a shuffle may stand in the tape, where its bytes are draws too. */
+static void case_geometry_in_tape(struct bench *bench)
+{
+    const struct bytes *geometry = &bench->parts[GEOMETRY].kept;
+
+    memcpy(bench->parts[TAPE].kept.at, geometry->at, geometry->length);
+    case_shared(bench, SHUFFLE, GEOMETRY, TAPE);
+}
+
 static void group_overlap(struct bench *bench)
 {
     if (!open_small(bench)) return;
@@ -2388,6 +2491,7 @@ static void group_overlap(struct bench *bench)
     case_shared(bench, READ, OWNERS, DEVICE);
     case_shared(bench, FORMAT, KEY, TAPE);
     case_permutation_in_device(bench);
+    case_geometry_in_tape(bench);
 
     lend_empty_state(bench);
     lend_vector(bench, &COUNTER_MODE_VECTOR, COUNTER_MODE_VECTOR.text);
@@ -2416,11 +2520,11 @@ static const struct group GROUPS[] = {
     { "ignored.txt", run_transcript }, { "lengths.txt", run_transcript }, { "format.txt", run_transcript },
     { "format-sizes.txt", run_transcript }, { "format-refusals.txt", run_transcript },
     { "lower-cells.txt", run_transcript }, { "start-places.txt", run_transcript }, { "counts.txt", run_transcript },
-    { "format-counts.txt", run_transcript }, { "releases.txt", run_transcript },
+    { "format-counts.txt", run_transcript }, { "releases.txt", run_transcript }, { "shuffles.txt", run_transcript },
     { "sizes of structs", group_struct_sizes }, { "NULL", group_null }, { "closed sessions", group_closed },
     { "layout of a session", group_layout }, { "start places", group_start_places },
-    { "start places above P", group_start_above }, { "releases", group_releases }, { "bad counts", group_bad_counts },
-    { "counts above k", group_counts_above }, { "ends of volumes", group_ends },
+    { "start places above P", group_start_above }, { "releases", group_releases }, { "shuffles", group_shuffles },
+    { "bad counts", group_bad_counts }, { "counts above k", group_counts_above }, { "ends of volumes", group_ends },
     { "counts of a formatting", group_formatting },
     { "published vectors", group_published }, { "wrong tags", group_wrong_tag }, { "cipher lengths", group_lengths },
     { "cipher NULL", group_cipher_null }, { "parts of a text", group_pieces }, { "far positions", group_positions },

@@ -310,7 +310,7 @@ class Lent:
         self.owners = []
         self.permutation = []
         self.tape = b""
-        self.tape_place = ("", 0)  # where the tape stands: a file and an offset in it
+        self.tape_place = ("", 0)  # where the tape stands: a file and an offset in it, or None
         self.position = 0
         self.session = NO_SESSION
         self.stored = []  # the places written by the call, for the transcript: byte, data, and where these stand or None
@@ -375,6 +375,31 @@ def format_device(lent, volumes, keys, counts):
         lent.store(g.header(i), header)
         for n in range(g.m):
             lent.store(g.map_block(i, n), maps[n])
+
+
+def shuffle(lent):
+    """Makes the lent list 0 to P - 1 in an order that the tape decides. A refusal leaves it, and gives back what was drawn."""
+    P = lent.geometry.P
+    if not lent.geometry.allowed():
+        raise Refused(1)
+    if len(lent.permutation) != P:
+        raise Refused(4)
+    order = list(range(P))
+    start = lent.position
+    try:
+        lent.draw(0)  # a position past the end is 21 also where P is 1 and nothing is drawn
+        for place in range(P - 1, 0, -1):
+            choices = place + 1
+            limit = 65536 // choices * choices
+            drawn = limit
+            while drawn >= limit:
+                drawn = int.from_bytes(lent.draw(2), "big")
+            other = drawn % choices
+            order[place], order[other] = order[other], order[place]
+    except Refused:
+        lent.position = start
+        raise
+    lent.permutation = order
 
 
 def open_device(lent, key):
@@ -644,9 +669,38 @@ def session_words(session):
     return words(list(session[:6]) + [counts_word(cut(session.counts, 0))] + keys)
 
 
+LONGEST = 2000  # bytes of a permutation or of a tape that still stand in a line, and not in a file
+
+
+def two_bytes(*numbers):
+    """As draws stand on a tape, and numbers of a permutation in a file: most significant first."""
+    return b"".join(n.to_bytes(2, "big") for n in numbers)
+
+
+def permutation_line(numbers):
+    """What sets the permutation to these numbers."""
+    line = f"permutation {words(numbers)}"
+    return line if len(line) < LONGEST else f"order {add('orders.bin', two_bytes(*numbers))} {len(numbers)}"
+
+
+def tape_line(data):
+    """What sets the tape to these bytes."""
+    line = f"tape {hexed(data)}"
+    return line if len(line) < LONGEST else f"tape {add('tapes.bin', data)} {len(data)}"
+
+
 def apply(lent, line):
     """Sets what a line `given ..` or `then ..` says."""
     kind, *rest = line.split(" ")
+    if kind == "tape" and len(rest) == 1:
+        lent.tape, lent.tape_place = bytes.fromhex("" if rest == ["-"] else rest[0]), None
+        return
+    if kind == "order":
+        offset, count = int(rest[1]), int(rest[2])
+        data = FILES[rest[0]][offset : offset + 2 * count]
+        assert len(data) == 2 * count, line
+        lent.permutation = [256 * high + low for high, low in zip(data[::2], data[1::2])]
+        return
     if kind in ("device", "bytes", "tape"):
         file, numbers = (rest[0], rest[1:]) if kind != "bytes" else (rest[1], rest[:1] + rest[2:])
         numbers = [int(n) for n in numbers]
@@ -751,7 +805,7 @@ class Transcript:
         self.tail = ""
         self.before = Lent()
         self.before.__dict__.update(self.lent.__dict__)
-        for part in ("device", "maps", "owners"):
+        for part in ("device", "maps", "owners", "permutation"):
             setattr(self.before, part, getattr(self.lent, part)[:])
         self.lent.stored = []
 
@@ -789,6 +843,21 @@ class Transcript:
         except Refused as refused:
             outcome = str(refused.number)
         self.called(f"format {volumes} {hexed(keys)} {counts_word(counts)}", expected, outcome, thens)
+
+    def shuffle(self, expected, order=None, position=None):
+        """With the permutation and the position that a served one leaves, where a hand worked them out."""
+        self.begin()
+        thens = []
+        try:
+            shuffle(self.lent)
+            outcome = "0"
+            left = self.lent.permutation, self.lent.position
+            assert order is None or left[0] == list(order), f"{self.name}: {left[0]}, not {order}"
+            assert position is None or left[1] == position, f"{self.name}: position {left[1]}, not {position}"
+            thens = [permutation_line(self.lent.permutation), f"position {self.lent.position}"]
+        except Refused as refused:
+            outcome = str(refused.number)
+        self.called("shuffle", expected, outcome, thens)
 
     def open(self, key, expected):
         self.spoil()
@@ -1074,6 +1143,15 @@ def above():
     t.finish()
 
 
+# Geometries.
+NOT_ALLOWED = (
+    "0 4 4", "16 1 4", "512 4 4", "1023 4 4", "1025 4 4", "2048 4 4", "4095 4 4", "8192 4 4", "4294968320 4 4",
+    "1024 0 4", "1024 65 4", "1024 256 4", "1024 4294967300 4", "4096 0 4", "4096 257 4",
+    "1024 4 0", "1024 4 4097", "1024 4 65540", "1024 4 4294967300", "0 0 0",
+    "18446744073709551615 18446744073709551615 18446744073709551615",
+)
+
+
 def refusals():
     """The refusals of each call in their order, and what each leaves."""
     image = small_image()
@@ -1094,12 +1172,7 @@ def refusals():
     t.given("maps 59 2")
     t.given("owners 7 0 255")
     t.given("permutation 0 0 0")
-    for geometry in (
-        "0 4 4", "16 1 4", "512 4 4", "1023 4 4", "1025 4 4", "2048 4 4", "4095 4 4", "8192 4 4", "4294968320 4 4",
-        "1024 0 4", "1024 65 4", "1024 256 4", "1024 4294967300 4", "4096 0 4", "4096 257 4",
-        "1024 4 0", "1024 4 4097", "1024 4 65540", "1024 4 4294967300", "0 0 0",
-        "18446744073709551615 18446744073709551615 18446744073709551615",
-    ):
+    for geometry in NOT_ALLOWED:
         t.given(f"geometry {geometry}")
         t.open(wrong[:31], "1")
     t.given("geometry 1024 4 4")
@@ -4013,6 +4086,458 @@ def releases_of_other_sizes(t):
     t.reads((0, 63, None))
 
 
+def ordering(others):
+    """The permutation that drawn places lead to, those for the last place first. It is built from place 1 up: the number of
+    each further place goes to where the number of the drawn place stands, and that one to the end."""
+    order = [0]
+    for number, other in enumerate(reversed(others), 1):
+        order.append(other)
+        order[order.index(other)] = number
+    return order
+
+
+def all_zeros(P):
+    """What draws of 0 lead to."""
+    return [*range(1, P), 0]
+
+
+def first_thrown(choices):
+    """The largest multiple of the number of choices not above 65,536."""
+    return range(0, 65537, choices)[-1]
+
+
+def all_thrown(choices):
+    """The draws that are thrown away, if any."""
+    return range(first_thrown(choices), 65536)
+
+
+MANY = (4096, 4095, 257, 256, 253, 252, 7, 5, 4, 3, 2, 1)
+SHUFFLED_NOISE = "two-maps.img 60000"  # tapes, and lists that are no permutation
+
+
+def shuffles():
+    """Permutations that the tape makes, and sessions with them."""
+    t = Transcript(
+        "shuffles.txt",
+        "Shuffles: the permutation and the position afterwards, and that all else stays. A draw is two bytes of the tape.",
+    )
+    shuffles_of_few(t)
+    shuffles_to_each_ordering(t)
+    shuffles_that_throw_away(t)
+    shuffles_and_tape_ends(t)
+    shuffles_and_lists(t)
+    shuffles_not_allowed(t)
+    shuffles_of_many(t)
+    shuffles_and_sessions(t, small_image())
+    shuffles_beside_a_session(t, small_image())
+    shuffles_and_a_formatting(t)
+    shuffles_of_other_devices(t)
+    t.finish()
+
+
+def shuffles_of_few(t):
+    """Worked out by hand."""
+    t.say("P 4, draws of 0: place 3, then 2, then 1 is exchanged with place 0. 0 1 2 3 becomes 3 1 2 0, 2 1 3 0, 1 2 3 0.")
+    t.given("geometry 1024 4 4")
+    t.given("permutation 9 9 9 9")
+    t.given("tape 000000000000")
+    t.shuffle("0", [1, 2, 3, 0], 6)
+    t.say("Each place is exchanged with itself; with the place before it; place 3 with place 2, and the others with themselves.")
+    for tape_bytes, order in (("000300020001", [0, 1, 2, 3]), ("000200010000", [3, 0, 1, 2]), ("000200020001", [0, 1, 3, 2])):
+        t.given(f"tape {tape_bytes}")
+        t.given("position 0")
+        t.shuffle("0", order, 6)
+    t.say("P 1 draws nothing: the position stays, also at the tape's end.")
+    t.given("geometry 1024 4 1")
+    for tape_bytes, position in (("-", 0), ("07", 0), ("07", 1), ("ffff", 0), ("ffff", 1), ("ffff", 2)):
+        t.given("permutation 7")
+        t.given(f"tape {tape_bytes}")
+        t.given(f"position {position}")
+        t.shuffle("0", [0], position)
+    t.say("P 2: an even draw exchanges the two places. No draw is thrown away.")
+    t.given("geometry 1024 4 2")
+    t.given("permutation 7 7")
+    drawn = (0, 1, 65535, 65534, 256, 255, 32768, 32767, 257, 254)
+    t.given(tape_line(two_bytes(*drawn)))
+    t.given("position 0")
+    for n, draw in enumerate(drawn):
+        t.shuffle("0", [1, 0] if draw % 2 == 0 else [0, 1], 2 * n + 2)
+    t.shuffle("21")
+    t.say("P 3: three choices for place 2, then two for place 1.")
+    t.given("geometry 1024 4 3")
+    t.given("permutation 7 7 7")
+    runs = (
+        (0, 0, [1, 2, 0]), (0, 1, [2, 1, 0]), (1, 0, [2, 0, 1]), (1, 1, [0, 2, 1]), (2, 0, [1, 0, 2]), (2, 1, [0, 1, 2]),
+        (65532, 65534, [1, 2, 0]), (65533, 65534, [2, 0, 1]), (65534, 65535, [0, 1, 2]), (255, 256, [1, 2, 0]),
+        (256, 255, [0, 2, 1]), (257, 258, [1, 0, 2]), (512, 513, [0, 1, 2]), (32768, 32768, [1, 0, 2]),
+    )
+    t.given(tape_line(two_bytes(*(draw for run in runs for draw in run[:2]))))
+    t.given("position 0")
+    for n, (_, _, order) in enumerate(runs):
+        t.shuffle("0", order, 4 * n + 4)
+    t.shuffle("21")
+
+
+def shuffles_to_each_ordering(t):
+    """Every run of drawn places, for few slices."""
+    noise = Noise("draws to each ordering")
+    for P in (4, 5):
+        t.say(f"P {P}: every run of drawn places once, and so every ordering once. The list has what the shuffle before it left.")
+        t.given(f"geometry 1024 4 {P}")
+        t.given(f"permutation {words([7] * P)}")
+        runs = list(itertools.product(*(range(choices) for choices in range(P, 1, -1))))
+        drawn = []
+        for others in runs:
+            for choices, other in zip(range(P, 1, -1), others):
+                drawn.append(other + choices * (int.from_bytes(noise.take(2), "big") % (65536 // choices)))
+        t.given(tape_line(two_bytes(*drawn)))
+        t.given("position 0")
+        seen = []
+        for n, others in enumerate(runs):
+            t.shuffle("0", ordering(others), 2 * (P - 1) * (n + 1))
+            seen.append(tuple(t.lent.permutation))
+        assert sorted(seen) == sorted(itertools.permutations(range(P)))
+        t.shuffle("21")
+
+
+def shuffles_that_throw_away(t):
+    """Draws at the largest multiple, above it and just below it."""
+    for P in range(3, 17):
+        thrown, below = all_thrown(P), first_thrown(P) - 1
+        t.say(f"{P} choices: {words(thrown) or 'none'} thrown away; {below} is place {P - 1}, {below - P + 1} place 0.")
+        t.given(f"geometry 1024 4 {P}")
+        t.given(f"permutation {words([7] * P)}")
+        t.given(tape_line(two_bytes(*thrown, below, *[0] * (P - 2), *reversed(thrown), below - P + 1, *[0] * (P - 2))))
+        t.given("position 0")
+        used = 2 * (len(thrown) + P - 1)
+        t.shuffle("0", [*range(1, P - 1), 0, P - 1], used)
+        t.shuffle("0", all_zeros(P), 2 * used)
+    t.say("Draws that are thrown away for places 6, 5, 4 and 2. For places 3 and 1 they are accepted.")
+    t.given("geometry 1024 4 7")
+    t.given(f"permutation {words([7] * 7)}")
+    t.given(tape_line(two_bytes(65534, 65535, 6, 65532, 65534, 65533, 65535, 5, 65535, 4, 65535, 65535, 2, 65535)))
+    t.given("position 0")
+    t.shuffle("0", range(7), 28)
+    t.say("Two hundred thrown away in a row; then with the tape cut behind them, and in the first draw behind them.")
+    t.given("geometry 1024 4 3")
+    t.given("permutation 7 7 7")
+    for length, answer in ((404, "0"), (403, "21"), (402, "21"), (401, "21"), (400, "21"), (399, "21")):
+        t.given(tape_line(two_bytes(*[65535] * 200, 65533, 65534)[:length]))
+        t.given("position 0")
+        t.shuffle(answer, [2, 0, 1], 404)
+    t.say("All FF: P 1 is served, and P 2 by one draw. With more slices nothing is accepted from the first number of choices on",
+          "that does not divide 65,536, and the tape ends, however long it is.")
+    for P in range(1, 9):
+        t.given(f"geometry 1024 4 {P}")
+        t.given(f"permutation {words([7] * P)}")
+        for length in sorted({0, 1, 2, 3, 4, 5, 2 * P - 2, 2 * P, 64, 65, 900}):
+            t.given(tape_line(bytes([255]) * length))
+            t.given("position 0")
+            t.shuffle("0" if P == 1 or P == 2 <= length else "21", range(P), 2 * P - 2)
+
+
+def shuffles_and_tape_ends(t):
+    """Every length of the tape around its end, with every position."""
+    data = bytes(range(10))
+    for P in range(1, 5):
+        t.say(f"P {P}: tapes of 0 to {2 * P + 1} bytes, and each position to two past the end. One byte left over is no draw.")
+        t.given(f"geometry 1024 4 {P}")
+        t.given(f"permutation {words([7] * P)}")
+        for length in range(2 * P + 2):
+            t.given(tape_line(data[:length]))
+            for position in range(length + 3):
+                t.given(f"position {position}")
+                used = range(position, position + 2 * P - 2, 2)
+                others = [(256 * at + at + 1) % choices for at, choices in zip(used, range(P, 1, -1))]
+                t.shuffle("0" if position + 2 * P - 2 <= length else "21", ordering(others), position + 2 * P - 2)
+    t.say("Positions far past the end, some of which are small modulo 2^32, or once a draw is added.")
+    for P in (1, 2, 3):
+        t.given(f"geometry 1024 4 {P}")
+        t.given(f"permutation {words([7] * P)}")
+        for tape_bytes in ("-", "00010203"):
+            t.given(f"tape {tape_bytes}")
+            for position in (256, 65536, 2**32, 2**32 + 4, 2**63, 2**64 - 4, 2**64 - 2, 2**64 - 1):
+                t.given(f"position {position}")
+                t.shuffle("21")
+    t.say("P 3, with draws that are thrown away before the end. From an even position FF 02 and FF FF are accepted, from an odd",
+          "one 02 FF and FF 00.")
+    data = bytes.fromhex("ffffffffff02ffff00")
+    for length in range(len(data) + 1):
+        t.given(tape_line(data[:length]))
+        for position in range(length + 2):
+            t.given(f"position {position}")
+            if position in (0, 2, 4) and length >= 8:
+                t.shuffle("0", [0, 1, 2], 8)
+            elif position in (1, 3, 5) and length == 9:
+                t.shuffle("0", [1, 0, 2], 9)
+            else:
+                t.shuffle("21")
+
+
+def shuffles_and_lists(t):
+    """What the lent list holds, and its length."""
+    t.say("What the list held before has no influence: the same draws lead to the same permutation.")
+    for P, drawn, order in ((4, (2, 0, 1), [3, 1, 0, 2]), (7, (6, 4, 4, 2, 2, 0), [1, 0, 3, 2, 5, 4, 6])):
+        t.given(f"geometry 1024 4 {P}")
+        t.given(tape_line(b"\7\7\7" + two_bytes(*drawn) + b"\7"))
+        for held in ([0] * P, [MARK] * P, range(P), order, range(P)[::-1], [P] * P, range(2**31, 2**31 + P), all_zeros(P)):
+            t.given(f"permutation {words(held)}")
+            t.given("position 3")
+            t.shuffle("0", order, 3 + 2 * len(drawn))
+    t.say("4: a list that is not P long, without a tape, with a position past the end, and with all else right. Then one that is.")
+    others = {1: [257], 2: [258], 4: [1, 2, 6, 8, 60, 256, 260], 257: [1, 2], 4096: [1, 8192]}
+    for P in MANY:
+        t.given(f"geometry 1024 4 {P}")
+        for count in sorted({0, P - 1, P + 1, *others.get(P, ())}):
+            t.given(f"order {SHUFFLED_NOISE} {count}")
+            for tape_words, position in (("-", 0), (f"{SHUFFLED_NOISE} 100", 101), (f"{SHUFFLED_NOISE} 16384", 0)):
+                t.given(f"tape {tape_words}")
+                t.given(f"position {position}")
+                t.shuffle("4")
+        t.given(f"order {SHUFFLED_NOISE} {P}")
+        t.shuffle("0")
+
+
+def shuffles_not_allowed(t):
+    """Geometries, and the order of refusals."""
+    t.say("1: geometries that are not allowed, with a list of P, or of 4 where P is too large, and a long tape; then with",
+          "everything else wrong too.")
+    for geometry in NOT_ALLOWED:
+        P = int(geometry.split(" ")[2])
+        t.given(f"geometry {geometry}")
+        t.given(f"order {SHUFFLED_NOISE} {P if P <= 4097 else 4}")
+        t.given(f"tape {SHUFFLED_NOISE} 16384")
+        t.given("position 0")
+        t.shuffle("1")
+        t.given("permutation 0 0 0")
+        t.given("tape -")
+        t.given("position 1")
+        t.shuffle("1")
+    t.say("All at once; then one refusal less each time. The 1 comes before the 21 alone, and before the 4 alone.")
+    for line, answer in (
+        ("geometry 4096 257 4", "1"), ("tape 000000000000", "1"), ("position 0", "1"), ("permutation 0 0 0 0", "1"),
+        ("position 7", "1"), ("permutation 0 0 0", "1"), ("geometry 4096 256 4", "4"), ("permutation 0 0 0 0", "21"),
+        ("position 1", "21"), ("position 0", "0"),
+    ):
+        t.given(line)
+        t.shuffle(answer, [1, 2, 3, 0], 6)
+    t.say("B and S that are allowed, up to their edges, make no difference.")
+    for geometry in ("1024 1 4", "1024 64 4", "4096 1 4", "4096 64 4", "4096 256 4"):
+        t.given(f"geometry {geometry}")
+        t.given("position 0")
+        t.shuffle("0", [1, 2, 3, 0], 6)
+
+
+def shuffles_of_many(t):
+    """Up to 4,096 slices. A tape has draws for 4,096 choices, then for one fewer, down to 2; those that fewer slices need are
+    its last ones."""
+
+    def drawn_for_each(draws, data=b""):
+        """Such a tape, with bytes before it, and the position at which the draws for each number of choices begin."""
+        begins = {}
+        for choices in range(4096, 0, -1):
+            begins[choices] = len(data)
+            data += two_bytes(*draws(choices)) if choices > 1 else b""
+        return data, begins
+
+    def each(data, begins, answer, order=lambda P: None):
+        for P in MANY:
+            t.given(f"geometry 1024 1 {P}")
+            t.given(f"order {SHUFFLED_NOISE} {P}")
+            t.given(f"position {begins[P]}")
+            t.shuffle(answer(P), order(P), len(data))
+
+    def each_to_the_end(data, begins, order):
+        """With the whole tape, and with one byte less: it ends in the last draw then, and for P 1 before the position."""
+        for length, answer in ((len(data), "0"), (len(data) - 1, "21")):
+            t.given(tape_line(data[:length]))
+            each(data, begins, lambda P: answer, order)
+
+    t.say("Draws of 0; then with one byte less.")
+    each_to_the_end(*drawn_for_each(lambda choices: [0]), all_zeros)
+    t.say("The first draw that is thrown away, then the last that is accepted: each place is exchanged with itself. Then with one",
+          "byte less.")
+    each_to_the_end(*drawn_for_each(lambda choices: [*all_thrown(choices)[:1], first_thrown(choices) - 1]), range)
+    t.say("The last and the first that are thrown away, then any that is accepted, from odd positions; then with one byte less.")
+    noise = Noise("draws of many")
+    accepted = {choices: int.from_bytes(noise.take(4), "big") % first_thrown(choices) for choices in range(4096, 1, -1)}
+    data, begins = drawn_for_each(lambda n: [*all_thrown(n)[:-2:-1], *all_thrown(n)[:1], accepted[n]], b"\0")
+    each_to_the_end(data, begins, lambda P: ordering([accepted[choices] % choices for choices in range(P, 1, -1)]))
+    t.say("All FF.")
+    data, begins = drawn_for_each(lambda choices: [65535])
+    t.given(tape_line(data))
+    each(data, begins, lambda P: "0" if P <= 2 else "21", range)
+    t.say("Noise, from an even position and from an odd one, and around byte 65,536.")
+    for P in MANY:
+        t.given(f"geometry 1024 1 {P}")
+        t.given(f"order {SHUFFLED_NOISE} {P}")
+        t.given(f"tape {SHUFFLED_NOISE} 16384")
+        for position in (0, 4099):
+            t.given(f"position {position}")
+            t.shuffle("0")
+    t.given("geometry 1024 1 7")
+    t.given(f"order {SHUFFLED_NOISE} 7")
+    t.given("tape two-maps.img 100000 70000")
+    for position in (65523, 65531, 65536, 65537):
+        t.given(f"position {position}")
+        t.shuffle("0")
+
+
+def shuffles_and_sessions(t, image):
+    """Sessions with the permutation that a shuffle made, which draw from the same tape."""
+    key = image.key
+    fresh = [small_text(volume, 99, "sixth") for volume in range(3)]
+    t.say("The list is no permutation, and an opening refuses it, until the tape has made it one. Slice 1 is free, at place 1.")
+    t.lend("small.img", SMALL, [9, 9, 9, 9],
+           tape("shuffles", 8192, at_0=two_bytes(65534, 65535, 3, 65535), at_3128=two_bytes(0, 0, 0)), 0)
+    t.open(key[2], "5")
+    t.shuffle("0", [3, 1, 0, 2], 8)
+    t.open(key[2], "0 2")
+    t.starts(1)
+    t.reads(*small_blocks(0, 1, 2))
+    t.write(1, 1, fresh[1], "0 claimed 1 1")
+    t.starts(2)
+    t.write(0, 0, fresh[0], "22 2")
+    t.starts(4)
+    t.say("Releases: the start place is the slice's place in it, and claims follow it.")
+    t.release(1, 3, "0 0")
+    t.starts(2)
+    t.write(2, 15, fresh[2], "0 claimed 0 1")
+    t.starts(3)
+    t.release(2, 0, "0 3")
+    t.starts(0)
+    t.write(0, 8, fresh[0], "0 claimed 3 1")
+    t.starts(1)
+    t.close("0")
+    assert t.lent.position == 8 + 3 * 1024 + 3 * 16
+    t.say("The next session, with a permutation from the rest of the tape. Under key 1 the slice of volume 2 is free, at place 3.")
+    t.shuffle("0", [1, 2, 3, 0], 3134)
+    t.open(key[1], "0 1")
+    t.starts(3)
+    t.open(key[2], "0 2")
+    t.starts(4)
+    t.reads((1, 1, fresh[1]), (2, 15, fresh[2]), (0, 8, fresh[0]), (0, 4, small_text(0, 4)), (2, 0, None), (1, 13, None))
+    t.release(0, 2, "0 3")
+    t.starts(2)
+    t.release(1, 0, "0 1")
+    t.starts(0)
+    t.write(2, 0, fresh[2], "0 claimed 1 1")
+    t.write(2, 4, fresh[2], "0 claimed 3 2")
+    t.write(2, 8, fresh[2], "22 1")
+    t.close("0")
+    t.open(key[2], "0 2")
+    t.starts(4)
+    t.reads((2, 0, fresh[2]), (2, 4, fresh[2]), (2, 15, fresh[2]), (0, 8, None), (1, 1, None), (0, 7, small_text(0, 7)))
+
+
+def shuffles_beside_a_session(t, image):
+    """A shuffle takes no session, and none is changed."""
+    key = image.key
+    fresh = small_text(0, 99, "sixth")
+    t.say("Beside an open session: shuffles for other geometries, and refused ones, leave device, tables and session.")
+    t.lend("small.img", SMALL, [2, 0, 1, 3], tape("shuffles", 8192), 100)
+    t.open(key[2], "0 2")
+    t.starts(2)
+    for geometry, count, position, answer in (
+        ("1024 4 7", 7, 100, "0"), ("4096 2 4", 4, 200, "0"), ("1024 1 257", 257, 300, "0"), ("1024 4 1", 1, 8192, "0"),
+        ("1024 4 5", 4, 100, "4"), ("1024 4 0", 0, 100, "1"), ("1024 4 4", 4, 8187, "21"), ("1024 4 1", 1, 8193, "21"),
+    ):
+        t.given(f"geometry {geometry}")
+        t.given(f"order {SHUFFLED_NOISE} {count}")
+        t.given(f"position {position}")
+        t.shuffle(answer)
+        t.image("small.img")
+        t.starts(2)
+        t.reads((0, 4, small_text(0, 4)), (1, 13, small_text(1, 13)), (2, 3, small_text(2, 3)))
+    t.say("Another permutation in the middle of the session, 0 3 2 1: the start place stays 2, and a claim looks from there on.")
+    t.given("geometry 1024 4 4")
+    t.given("permutation 2 0 1 3")
+    t.given("tape 000100020001")
+    t.given("position 0")
+    t.shuffle("0", [0, 3, 2, 1], 6)
+    t.starts(2)
+    t.given(f"tape {tape('shuffles', 8192)}")
+    t.write(0, 0, fresh, "0 claimed 1 2")
+    t.starts(4)
+    t.release(2, 0, "0 3")
+    t.starts(1)
+    t.close("0")
+    t.say("Beside a closed session, which holds no keys and stays closed.")
+    t.shuffle("0")
+    t.release(0, 1, "20")
+    t.open(key[2], "0 2")
+    t.reads((0, 0, fresh), (0, 4, small_text(0, 4)), (2, 0, None))
+
+
+def shuffles_and_a_formatting(t):
+    """A device from nothing but keys and a tape."""
+    key = format_keys(0, 1, 2)
+    fresh = [text(f"shuffles, text {n}", 1024) for n in range(4)]
+    t.say("Formatting, shuffle and session from one tape. The device is empty: claims take the slices in the permutation's order.")
+    t.given("geometry 1024 4 4")
+    t.given("zeros 52224")
+    t.given("permutation 0 0 0 0")
+    t.given("tape two-maps.img 100000 70000")
+    t.given("position 0")
+    t.format(key, "0")
+    assert t.lent.position == 52224 + 3 * 104
+    t.shuffle("0")
+    order = list(t.lent.permutation)
+    t.open(key[2], "0 2")
+    t.starts(0)
+    for n, (volume, address) in enumerate(((1, 5), (0, 0), (2, 15), (0, 9))):
+        t.write(volume, address, fresh[n], f"0 claimed {order[n]} 1")
+        t.starts(n + 1)
+    t.write(2, 0, fresh[0], "22 0")
+    t.release(0, 0, f"0 {order[1]}")
+    t.starts(1)
+    t.write(2, 0, fresh[3], f"0 claimed {order[1]} 1")
+    t.close("0")
+    t.say("Two more, each with a session: the slice that is given back is found at its place.")
+    for _ in range(2):
+        t.shuffle("0")
+        order = t.lent.permutation
+        t.open(key[2], "0 2")
+        t.starts(4)
+        psi = t.lent.maps[4 * 1 + 1]
+        t.release(1, 1, f"0 {psi}")
+        t.starts(order.index(psi))
+        t.write(1, 5, fresh[0], f"0 claimed {psi} 1")
+        t.starts(order.index(psi) + 1)
+        t.reads((1, 5, fresh[0]), (2, 15, fresh[2]), (0, 9, fresh[3]), (2, 0, fresh[3]), (0, 0, None))
+
+
+def shuffles_of_other_devices(t):
+    """Seven slices, 257 and one."""
+    for name, image, k in (("counts.img", counted_image(), 3), ("two-maps.img", Image("two-maps.img", Geometry(1024, 1, 257)), 1)):
+        g = image.g
+        t.say(f"P {g.P}: an opening finds the first free place of the permutation, and claims follow it from there on.")
+        t.lend(name, g, [0] * g.P, f"{SHUFFLED_NOISE} 16384", 1)
+        for _ in range(2):
+            t.shuffle("0")
+            t.open(image.key[k], f"0 {k}")
+            order = t.lent.permutation
+            free = [place for place in range(g.P) if t.lent.owners[order[place]] == 0]
+            unmapped = [sigma for sigma in range(t.lent.session.counts[0]) if t.lent.maps[sigma] == MARK]
+            start = free[0]
+            t.starts(start)
+            for place, sigma in zip(free, unmapped):
+                t.write(0, sigma * g.S, SOME_COUNTED, f"0 claimed {order[place]} {place + 1 - start}")
+                start = place + 1
+                t.starts(start)
+            t.release(0, unmapped[0], f"0 {order[free[0]]}")
+            t.starts(free[0])
+    t.say("One slice of 64 blocks: the list is 0, whatever the tape has.")
+    image = Image("widest.img", Geometry(1024, 64, 1))
+    t.lend("widest.img", Geometry(1024, 64, 1), [1], f"{SHUFFLED_NOISE} 2048", 7)
+    t.open(image.key[1], "5")
+    t.shuffle("0", [0], 7)
+    t.open(image.key[1], "0 1")
+    t.release(1, 0, "0 0")
+    t.write(0, 63, SOME_COUNTED, "0 claimed 0 1")
+    t.reads((0, 63, SOME_COUNTED), (0, 62, None))
+
+
 def make():
     check_layout()
     FILES["texts.bin"] = bytes(4096)  # zeros first: what an unmapped block reads as
@@ -4036,6 +4561,7 @@ def make():
     counts()
     format_counts()
     releases()
+    shuffles()
 
 
 def main():
