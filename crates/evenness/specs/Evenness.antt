@@ -34,7 +34,7 @@ drawsOf (suc i) xs perm (q ∷ qs) =
 
 -- ---- how many
 
--- The product of 65,536 / n rounded down for n from 2 to i + 1: the number of choices at the places from 1 to i.
+-- The product of 65,536 / n, rounded down, over the numbers n of choices at the places from i down to 1, which are i + 1 down to 2.
 unfoldable pub runCount : (i : ℕ) → ℕ
 runCount zero = 1
 runCount (suc i) = 65536 / suc (suc i) * runCount i
