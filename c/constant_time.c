@@ -178,20 +178,19 @@ static void try_session(uint64_t block_bytes, uint64_t slice_blocks, uint64_t sl
 {
     struct stick *s = make_stick(block_bytes, slice_blocks, slices);
     const size_t block = (size_t)block_bytes;
-    const size_t map_block = block - HIWALGAM_IV_BYTES;
-    const size_t map_blocks = (4 * s->slices + map_block - 1) / map_block;
+    const size_t map_block = block - HIWALGAM_IV_BYTES; /* the bytes of a map block that are enciphered */
 
     printf("B %lu, S %lu, P %lu:\n", (unsigned long)block_bytes, (unsigned long)slice_blocks, (unsigned long)slices);
     by_table("format", call_format, s, 1);
     hide_all_but_draws(s);
     on_planes("shuffle", call_shuffle, s, 0);
     by_table("open", call_open, s, 0);
-    on_planes("write, a claim", call_write, s, block * (size_t)slice_blocks);
+    on_planes("write, a claim", call_write, s, block * (size_t)slice_blocks + map_block);
     on_planes("write, a rewrite", call_write, s, block);
     on_planes("read", call_read, s, block);
     on_planes("find", call_find, s, 0);
-    on_planes("release", call_release, s, 0);
-    on_planes("close", call_close, s, HIWALGAM_VOLUMES * map_blocks * map_block);
+    on_planes("release", call_release, s, map_block);
+    on_planes("close", call_close, s, 0);
     free_stick(s);
 }
 

@@ -1,7 +1,7 @@
 /*
- * A first program: makes a device with two volumes of different lengths, opens both, writes the last block of the upper
- * one, closes, opens again, reads the block back and gives its slice back, after which the block is zeros. Each of the
- * two sessions has a permutation of its own.
+ * A first program: makes a device with two volumes of different lengths, opens both and writes the last block of the
+ * upper one. That session is dropped without a close. A second one, with a permutation of its own, reads the block back
+ * and gives its slice back; the device, opened once more, has zeros there.
  */
 #include <stdio.h>
 #include <string.h>
@@ -14,8 +14,8 @@ enum {
     MAPS = HIWALGAM_VOLUMES * P,
     KEYS = 2,                        /* one for each volume that is made */
     VOLUME = KEYS - 1, ADDRESS = 11, /* the block that is written */
-    /* A formatting, a write that claims a slice, two closes. */
-    TAKEN = DEVICE + KEYS * (88 + 16 * M) + B + 2 * KEYS * 16 * M,
+    /* A formatting, a write that claims a slice, a release. */
+    TAKEN = DEVICE + KEYS * (88 + 16 * M) + (B + 16) + 16,
     /* Two shuffles, with room for draws that are thrown away. */
     TAPE = TAKEN + 2 * (2 * P + 512)
 };
@@ -55,10 +55,8 @@ int main(void) {
     if (refused("write", hiwalgam_write(device, DEVICE, maps, MAPS, owners, P, permutation, P, tape, TAPE, &position,
             &session, sizeof session, VOLUME, ADDRESS, text, B, &written, sizeof written))) return 1;
     if (written.slice != permutation[0]) return 1;
-    if (refused("close", hiwalgam_close(device, DEVICE, maps, MAPS, owners, P, tape, TAPE, &position,
-            &session, sizeof session))) return 1;
 
-    /* Here the device would go to a stick, and come back another day. */
+    /* Here the device is stored on a stick, which is pulled out, and comes back another day: nothing is lost. */
     start = position;
     if (refused("shuffle", hiwalgam_shuffle(&geometry, sizeof geometry, permutation, P,
             tape, TAPE, &position))) return 1;
@@ -71,13 +69,15 @@ int main(void) {
         || session.start_place != (permutation[0] == written.slice)
         || ADDRESS + 1 != session.counts[VOLUME] * S) return 1;
 
-    if (refused("release", hiwalgam_release(device, DEVICE, maps, MAPS, owners, P, permutation, P,
-            &session, sizeof session, VOLUME, ADDRESS / S, &slice))) return 1;
+    if (refused("release", hiwalgam_release(device, DEVICE, maps, MAPS, owners, P, permutation, P, tape, TAPE,
+            &position, &session, sizeof session, VOLUME, ADDRESS / S, &slice))) return 1;
+    if (refused("open", hiwalgam_open(device, DEVICE, &geometry, sizeof geometry, key, HIWALGAM_KEY_BYTES, maps, MAPS,
+            owners, P, permutation, P, &session, sizeof session))) return 1;
     if (refused("read", hiwalgam_read(device, DEVICE, maps, MAPS, owners, P, &session, sizeof session,
             VOLUME, ADDRESS, block, B))) return 1;
-    if (refused("close", hiwalgam_close(device, DEVICE, maps, MAPS, owners, P, tape, TAPE, &position,
-            &session, sizeof session))) return 1;
+    if (refused("close", hiwalgam_close(device, DEVICE, maps, MAPS, owners, P, &session, sizeof session))) return 1;
     memset(text, 0, B);
     return memcmp(block, text, B) != 0 || slice != written.slice || session.start_place != 0
+        || session.open == 1 || memcmp(session.keys, text, sizeof session.keys) != 0
         || drawn < 2 * 2 * (P - 1) || drawn % 2 != 0 || position != TAKEN + drawn;
 }

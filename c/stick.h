@@ -138,15 +138,15 @@ static inline void call_write(struct stick *s)
 static inline void call_release(struct stick *s)
 {
     s->answer = hiwalgam_release(s->device, s->device_length, s->maps, HIWALGAM_VOLUMES * s->slices,
-                                 s->owners, s->slices, s->permutation, s->slices, &s->session, sizeof s->session,
+                                 s->owners, s->slices, s->permutation, s->slices,
+                                 s->tape, s->tape_length, &s->position, &s->session, sizeof s->session,
                                  HIWALGAM_VOLUMES - 1, 0, &s->freed);
 }
 
 static inline void call_close(struct stick *s)
 {
     s->answer = hiwalgam_close(s->device, s->device_length, s->maps, HIWALGAM_VOLUMES * s->slices,
-                               s->owners, s->slices, s->tape, s->tape_length, &s->position,
-                               &s->session, sizeof s->session);
+                               s->owners, s->slices, &s->session, sizeof s->session);
 }
 
 static inline void call_counter_mode(struct stick *s)

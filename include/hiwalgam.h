@@ -11,6 +11,12 @@
  * and the session of an opening, the answer of a write, and the session's start place at a write's 22, as said
  * there. No function keeps anything between two calls.
  *
+ * Between two calls the device alone has every volume as it is: opened with the same key, it gives the same
+ * volumes and the same blocks, whether the session before was closed or dropped. But a call changes memory alone,
+ * and the caller has to store what it wrote: a claim its slice, S + 1 blocks, and one map block; a rewrite the 16
+ * bytes of an IV, and the block; a release one map block; a formatting the whole device. No other call writes a byte
+ * of it. A device whose storing was cut inside what one call wrote is not covered.
+ *
  * What the caller has to keep to, everywhere:
  *
  * - Each pointer but those to the tape position and to the slice freed is followed by a length: of a list the
@@ -21,9 +27,9 @@
  * - NULL may be passed with length 0, which is then judged as any other length. The pointers to the tape position
  *   and to the slice freed are never NULL.
  * - The buffers of one call do not overlap, but for those that are const.
- * - One session at a time: from an opening to its close nothing but these calls alters device, tables, tape
- *   position and session, and each write and release is handed the permutation of the opening. Tape bytes are
- *   random, and none is used twice.
+ * - One session at a time: from an opening to the last call of its session nothing but these calls alters
+ *   device, tables, tape position and session, and each write and release is handed the permutation of the
+ *   opening. Tape bytes are random, and none is used twice.
  * - The platform is x86-64 Linux: 64-bit size_t, numbers with the least significant byte first. A call takes
  *   up to 32 KiB of stack.
  *
@@ -84,9 +90,10 @@ enum hiwalgam_answer {
 /*
  * How a device is divided: P slices, which volumes take and give back, of S data blocks of B bytes.
  *
- * Each volume has m map blocks: P / 252 for B 1024 and P / 1020 for B 4096, rounded up. The device has
- * B x (1 + 15 x (1 + m) + P x (S + 1)) bytes. A volume has N x S blocks, addressed from 0: N, 1 to P, is its own
- * count of logical slices, which hiwalgam_format sets and its header keeps.
+ * Each volume has m map blocks: P / 252 for B 1024 and P / 1020 for B 4096, rounded up; the entry of logical slice
+ * l stands in map block l / 252 or l / 1020, rounded down. The device has B x (1 + 15 x (1 + m) + P x (S + 1)) bytes.
+ * A volume has N x S blocks, addressed from 0: N, 1 to P, is its own count of logical slices, which hiwalgam_format
+ * sets and its header keeps.
  */
 typedef struct hiwalgam_geometry {
     uint64_t block_bytes;  /* B: 1024 or 4096 */
@@ -256,18 +263,20 @@ size_t hiwalgam_find(const uint8_t *device, size_t device_length,
 /*
  * Writes a block of an open volume: text has B bytes. Where the block's logical slice has a slice, the block
  * is rewritten there and takes 16 bytes of the tape. Otherwise the first free slice in the order of the
- * permutation, from the session's start place on, is claimed, and takes B bytes of the tape; the start place
- * becomes the claimed place plus one. *position is the next unused byte of the tape, and is moved on. Sets
- * written; a claim and a 22 set the session.
+ * permutation, from the session's start place on, is claimed, and the map block that has the entry is stored
+ * too: this takes B bytes of the tape for the slice, then 16 for the map block. The start place becomes the claimed
+ * place plus one. *position is the next unused byte of the tape, and is moved on. Sets written; a claim and a 22 set
+ * the session.
  *
- * A claim is on the device, but in its maps only after hiwalgam_close: a session that is not closed loses it.
- * Keep tape bytes for the close.
+ * When the call returns, a claim is on the device with its map entry.
  *
- * Refused by 13 (session or written of another size), 20, 2, 4, 5 (length), 11, 12, 13 (text), 9; a claim by
- * 5 (a place that names no slice) or 22; both by 21. Refused too it sets written, unless that has another size.
- * A 22 sets the session's start place to P; no other refusal changes the session. With another permutation
- * than that of the opening, here or at a release before, a 22 can come while an earlier place is free. The probes
- * of a session's writes, those refused by 5 or 21 left out, add up to at most P x (1 + its served releases).
+ * Refused by 13 (session or written of another size), 20, 2, 4, 5 (length), 11, 12, 13 (text), 9 (the block's
+ * entry); a claim by 9 (any entry of the map block that has this one, those from N to P - 1 included), 5 (a place
+ * that names no slice) or 22; both by 21. A rewrite is not refused for another entry. Refused too it sets written,
+ * unless that has another size. A 22 sets the session's start place to P; no other refusal changes the session. With
+ * another permutation than that of the opening, here or at a release before, a 22 can come while an earlier place is
+ * free. The probes of a session's writes, those refused by 5 or 21 left out, add up to at most P x (1 + its served
+ * releases).
  */
 uint8_t hiwalgam_write(uint8_t *device, size_t device_length,
                        uint32_t *maps, size_t maps_length,
@@ -287,36 +296,36 @@ uint8_t hiwalgam_write(uint8_t *device, size_t device_length,
  * until then its bytes stay on the device. The session's start place becomes the lower of itself and the slice's
  * place in permutation. Sets *slice to the slice freed.
  *
- * Takes no tape, and writes no byte of the device: its maps have the release only after hiwalgam_close. A session
- * that is not closed loses it, and where the slice was claimed again also what it held.
+ * The map block that has the entry is stored, which takes 16 bytes of the tape: *position is the next unused one,
+ * and is moved on. When the call returns, the release is on the device.
  *
  * Refused by 13 (session of another size), 20, 2, 4, 5 (the whole permutation), 11, 12 (logical_slice at or above
- * N), 9 (its entry), 25. Refused, it leaves *slice too.
+ * N), 9 (any entry of the map block that has its entry, those from N to P - 1 included), 25, 21. Refused, it leaves
+ * *slice too.
  */
-uint8_t hiwalgam_release(const uint8_t *device, size_t device_length,
+uint8_t hiwalgam_release(uint8_t *device, size_t device_length,
                          uint32_t *maps, size_t maps_length,
                          uint8_t *owners, size_t owners_length,
                          const uint32_t *permutation, size_t permutation_length,
+                         const uint8_t *tape, size_t tape_length, size_t *position,
                          hiwalgam_session *session, size_t session_size,
                          uint64_t volume, uint64_t logical_slice, uint64_t *slice)
-    HIWALGAM_ANSWERS HIWALGAM_IN(1, 2) HIWALGAM_INOUT(3, 4) HIWALGAM_INOUT(5, 6) HIWALGAM_IN(7, 8)
-    HIWALGAM_NOT_NULL(13);
+    HIWALGAM_ANSWERS HIWALGAM_INOUT(1, 2) HIWALGAM_INOUT(3, 4) HIWALGAM_INOUT(5, 6) HIWALGAM_IN(7, 8)
+    HIWALGAM_IN(9, 10) HIWALGAM_NOT_NULL(11) HIWALGAM_NOT_NULL(16);
 
 /*
- * Closes a session: the maps of the open volumes go to the device, with 16 bytes of the tape for each map
- * block, 16 x m x (k + 1) in all; then every entry is HIWALGAM_UNMAPPED, every owner 0, and the session
- * closed, its keys zeros; its geometry, volume, start place and counts stay. The device is then to be stored.
+ * Closes a session, which wipes what is held: every entry is HIWALGAM_UNMAPPED, every owner 0, and the session
+ * closed, its keys zeros; its geometry, volume, start place and counts stay. No byte of the device is written: it has
+ * all that the session stored. A session that is dropped without a close loses nothing, but its keys and tables stay
+ * in the caller's memory.
  *
- * Refused by 13 (session of another size), 20, 2, 4, 9 (any entry of the open volumes, those from N to P - 1
- * included), 21. The session is still open after a 21, and can be closed with more tape.
+ * Refused by 13 (session of another size), 20, 2, 4.
  */
-uint8_t hiwalgam_close(uint8_t *device, size_t device_length,
+uint8_t hiwalgam_close(const uint8_t *device, size_t device_length,
                        uint32_t *maps, size_t maps_length,
                        uint8_t *owners, size_t owners_length,
-                       const uint8_t *tape, size_t tape_length, size_t *position,
                        hiwalgam_session *session, size_t session_size)
-    HIWALGAM_ANSWERS HIWALGAM_INOUT(1, 2) HIWALGAM_INOUT(3, 4) HIWALGAM_INOUT(5, 6) HIWALGAM_IN(7, 8)
-    HIWALGAM_NOT_NULL(9);
+    HIWALGAM_ANSWERS HIWALGAM_IN(1, 2) HIWALGAM_OUT(3, 4) HIWALGAM_OUT(5, 6);
 
 /*
  * AES-256 in counter mode (SP 800-38A): key 32 bytes, IV 16, text 0 to 4,096, out as long as the text.

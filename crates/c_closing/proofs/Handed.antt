@@ -19,9 +19,9 @@ closeNumber-answer : (a : Answer) → answerNumber a ≡ closeNumber (closeResul
 closeNumber-answer Served = refl
 closeNumber-answer (Refused r) = refl
 
-module _ {session₀ device₀ maps₀ owners₀ : List ℕ} {position₀ : ℕ} {o : Outcome CloseResult} where
+module _ {session₀ device maps₀ owners₀ : List ℕ} {position : ℕ} {o : Outcome CloseResult} where
   pub close-session : (length session₀ ≡ 648 → ⊥)
-      → CloseHanded session₀ o device₀ maps₀ owners₀ position₀ 13 device₀ maps₀ owners₀ position₀ session₀
+      → CloseHanded session₀ o device maps₀ owners₀ position 13 maps₀ owners₀ session₀
   close-session other =
       let e = ne-eqb (length session₀) 648 other in
       record {
@@ -33,10 +33,10 @@ module _ {session₀ device₀ maps₀ owners₀ : List ℕ} {position₀ : ℕ}
         handed = refl;
       }
 
-  pub close-sized : (a : Answer) {device maps owners session : List ℕ} {position number : ℕ} {s : Session} → length session₀ ≡ 648
-      → Leaves CloseResult o device₀ (closeResult a) device maps owners position s → number ≡ answerNumber a
+  pub close-sized : (a : Answer) {maps owners session : List ℕ} {number : ℕ} {s : Session} → length session₀ ≡ 648
+      → Leaves CloseResult o device (closeResult a) device maps owners position s → number ≡ answerNumber a
       → session ≡ handedBack number (sessionBytes s) session₀
-      → CloseHanded session₀ o device₀ maps₀ owners₀ position₀ number device maps owners position session
+      → CloseHanded session₀ o device maps₀ owners₀ position number maps owners session
   close-sized a {number = number} sized left numbered back =
       let e = eq-eqb (length session₀) 648 sized in
       record {

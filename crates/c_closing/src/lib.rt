@@ -2,32 +2,30 @@
 //
 // Arguments pass as in `c_ciphers`. The struct of the session is lent as its bytes, which crate `records` reads and writes. Where it
 // has another size than the header's, the answer is 13 before everything else, and all that was lent stays.
+ghost use Prim.Native.Nat.{ℕ};
 ghost use lib.ListN.{length};
 ghost use Rattle.model.specs.Session.{held};
 ghost use Rattle.model.specs.Close.{closeModel};
 ghost use Rattle.records.specs.Structs.{sessionIn};
 ghost use Rattle.c_closing.specs.Handed.{CloseHanded, HandedLaws};
 
-// Close.
+// Close, whatever the tape position: no tape is lent.
 #[no_mangle]
 pub extern "C" fn hiwalgam_close(
-    device: &mut [u8],
+    device: &[u8],
     maps: &mut [u32],
     owners: &mut [u8],
-    tape: &[u8],
-    position: &mut usize,
     session: &mut [u8],
 ) -> u8
-    ensures { λ r. ⌜ CloseHanded (now (session .entry)) (closeModel (length (now (device .entry))) (held (now (maps .entry)) (now (owners .entry))
-        (now (position .entry)) (sessionIn (now (session .entry)))) (now (tape .entry))) (now (device .entry)) (now (maps .entry))
-        (now (owners .entry)) (now (position .entry)) r (now (device .exit)) (now (maps .exit)) (now (owners .exit)) (now (position .exit))
-        (now (session .exit)) ⌝ }
+    ensures { λ r. ⌜ ((position : ℕ) → CloseHanded (now (session .entry)) (closeModel (length (now (device .entry))) (held (now (maps .entry))
+        (now (owners .entry)) position (sessionIn (now (session .entry))))) (now (device .entry)) (now (maps .entry)) (now (owners .entry))
+        position r (now (maps .exit)) (now (owners .exit)) (now (session .exit))) ⌝ }
 {
     if session.len() != 648 {
         return 13;
     }
     let s = records::session_in(session);
-    let r = lending::close_at(device, maps, owners, tape, position, s);
+    let r = closing::close(device, maps, owners, s);
     let answer = r.answer;
     let number = refusals::answer_number(answer);
     records::hand_back(session, r.session, number);

@@ -12,9 +12,9 @@ use Rattle.records.specs.Structs.{sessionBytes, handedBack}
 use Rattle.replies.specs.Answers.{releaseNumber, freedSlice}
 use Rattle.c_releasing.specs.Handed.{ReleaseHanded}
 
-module _ {session₀ device maps₀ owners₀ : List ℕ} {position slice₀ : ℕ} {o : Outcome ReleaseResult} where
+module _ {session₀ device₀ maps₀ owners₀ : List ℕ} {position₀ slice₀ : ℕ} {o : Outcome ReleaseResult} where
   pub release-session : (length session₀ ≡ 648 → ⊥)
-      → ReleaseHanded session₀ o device maps₀ owners₀ position slice₀ 13 maps₀ owners₀ session₀ slice₀
+      → ReleaseHanded session₀ o device₀ maps₀ owners₀ position₀ slice₀ 13 device₀ maps₀ owners₀ position₀ session₀ slice₀
   release-session other =
       let e = ne-eqb (length session₀) 648 other in
       record {
@@ -27,10 +27,10 @@ module _ {session₀ device maps₀ owners₀ : List ℕ} {position slice₀ : �
         handed = refl;
       }
 
-  pub release-sized : {a : ReleaseResult} {maps owners session : List ℕ} {slice number : ℕ} {s : Session} → length session₀ ≡ 648
-      → Leaves ReleaseResult o device a device maps owners position s → number ≡ releaseNumber a → slice ≡ freedSlice a slice₀
-      → session ≡ handedBack number (sessionBytes s) session₀
-      → ReleaseHanded session₀ o device maps₀ owners₀ position slice₀ number maps owners session slice
+  pub release-sized : {a : ReleaseResult} {device maps owners session : List ℕ} {position slice number : ℕ} {s : Session}
+      → length session₀ ≡ 648 → Leaves ReleaseResult o device₀ a device maps owners position s → number ≡ releaseNumber a
+      → slice ≡ freedSlice a slice₀ → session ≡ handedBack number (sessionBytes s) session₀
+      → ReleaseHanded session₀ o device₀ maps₀ owners₀ position₀ slice₀ number device maps owners position session slice
   release-sized {number = number} sized left numbered set back =
       let e = eq-eqb (length session₀) 648 sized in
       record {

@@ -10,28 +10,34 @@ use Rattle.model.specs.Release.{ReleaseResult}
 use Rattle.records.specs.Structs.{sessionSized, sessionBytes, handedBack}
 use Rattle.replies.specs.Answers.{releaseNumber, freedSlice}
 
--- What a release hands over. It is lent the device to be read alone and no tape position: the outcome leaves both. A refused one leaves
--- the session's bytes.
-pub record ReleaseHanded (session₀ : List ℕ) (o : Outcome ReleaseResult) (device maps₀ owners₀ : List ℕ) (position slice₀ number : ℕ)
-    (maps owners session : List ℕ) (slice : ℕ) : Type 0 where
+-- What a release hands over. A refused one leaves the session's bytes.
+pub record ReleaseHanded (session₀ : List ℕ) (o : Outcome ReleaseResult) (device₀ maps₀ owners₀ : List ℕ) (position₀ slice₀ number : ℕ)
+    (device maps owners : List ℕ) (position : ℕ) (session : List ℕ) (slice : ℕ) : Type 0 where
   pub number-is : number ≡ choose (sessionSized session₀) (releaseNumber (o .answer)) 13
   pub freed : slice ≡ choose (sessionSized session₀) (freedSlice (o .answer) slice₀) slice₀
-  pub stored : device ≡ choose (sessionSized session₀) (patched (o .patches) device) device
+  pub stored : device ≡ choose (sessionSized session₀) (patched (o .patches) device₀) device₀
   pub mapped : maps ≡ choose (sessionSized session₀) (o .held .maps) maps₀
   pub owned : owners ≡ choose (sessionSized session₀) (o .held .owners) owners₀
-  pub moved : position ≡ choose (sessionSized session₀) (o .held .position) position
+  pub moved : position ≡ choose (sessionSized session₀) (o .held .position) position₀
   pub handed : session ≡ handedBack number (sessionBytes (o .held .session)) session₀
 
 -- ---- what the contract fixes
 
 -- What is left by a release whose struct has another size, and by one whose struct has its own.
-pub record ReleaseFixed (session₀ : List ℕ) (o : Outcome ReleaseResult) (device maps₀ owners₀ : List ℕ) (position slice₀ number : ℕ)
-    (maps owners session : List ℕ) (slice : ℕ) : Type 0 where
-  pub other : (length session₀ ≡ 648 → ⊥) → (number ≡ 13) × (slice ≡ slice₀) × (maps ≡ maps₀) × (owners ≡ owners₀) × (session ≡ session₀)
+pub record ReleaseFixed (session₀ : List ℕ) (o : Outcome ReleaseResult) (device₀ maps₀ owners₀ : List ℕ) (position₀ slice₀ number : ℕ)
+    (device maps owners : List ℕ) (position : ℕ) (session : List ℕ) (slice : ℕ) : Type 0 where
+  pub other : (length session₀ ≡ 648 → ⊥)
+      → (number ≡ 13)
+      × (slice ≡ slice₀)
+      × (device ≡ device₀)
+      × (maps ≡ maps₀)
+      × (owners ≡ owners₀)
+      × (position ≡ position₀)
+      × (session ≡ session₀)
   pub sized : length session₀ ≡ 648
       → (number ≡ releaseNumber (o .answer))
       × (slice ≡ freedSlice (o .answer) slice₀)
-      × (device ≡ patched (o .patches) device)
+      × (device ≡ patched (o .patches) device₀)
       × (maps ≡ o .held .maps)
       × (owners ≡ o .held .owners)
       × (position ≡ o .held .position)
@@ -39,7 +45,7 @@ pub record ReleaseFixed (session₀ : List ℕ) (o : Outcome ReleaseResult) (dev
 
 -- The contract fixes all that is lent to be written, whatever the size of the struct.
 pub record HandedLaws : Type 0 where
-  pub release-fixed : {session₀ : List ℕ} {o : Outcome ReleaseResult} {device maps₀ owners₀ : List ℕ} {position slice₀ number : ℕ}
-      {maps owners session : List ℕ} {slice : ℕ}
-      → ReleaseHanded session₀ o device maps₀ owners₀ position slice₀ number maps owners session slice
-      → ReleaseFixed session₀ o device maps₀ owners₀ position slice₀ number maps owners session slice
+  pub release-fixed : {session₀ : List ℕ} {o : Outcome ReleaseResult} {device₀ maps₀ owners₀ : List ℕ} {position₀ slice₀ number : ℕ}
+      {device maps owners : List ℕ} {position : ℕ} {session : List ℕ} {slice : ℕ}
+      → ReleaseHanded session₀ o device₀ maps₀ owners₀ position₀ slice₀ number device maps owners position session slice
+      → ReleaseFixed session₀ o device₀ maps₀ owners₀ position₀ slice₀ number device maps owners position session slice

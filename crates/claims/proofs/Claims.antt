@@ -16,7 +16,7 @@ use Rattle.model.specs.declared.Geometry.{Geometry}
 use Rattle.model.specs.Geometry.{Allowed, badGeometry, deviceLength}
 use Rattle.model.specs.Session.{Held, held, standing, idle, slot, sliceOf, offsetOf}
 use Rattle.model.specs.Conditions.{CountsFit}
-use Rattle.model.specs.Write.{Refused, rewritten, claimed, full, writeRefusal, writeModel}
+use Rattle.model.specs.Write.{Refused, claimNeed, rewritten, claimed, full, writeRefusal, writeModel}
 use Rattle.model.proofs.Tests.{badGeometry-allowed}
 use Rattle.model.proofs.Requests.{anyBadCount-fits}
 use Rattle.model.proofs.Order.{badGeometry-first}
@@ -77,20 +77,21 @@ module _ (w : Walk) (maps owners perm : List ℕ) (i a : ℕ) (shuffled : w .shu
         → Serves w ψ (offsetOf g a) 0 16 w′ said → Answers (written state i a) (stateOf w′ maps owners perm) (answerBytes said)
     rewrite-answers e s = rw (s .left, s .answered, engineWrite-lent ∙ e, add-zero (w .start)) (record { left = refl; answered = refl })
 
-    pub claim-answers : (place : ℕ) (maps′ owners′ : List ℕ)
+    pub claim-answers : (place drawn : ℕ) (maps′ owners′ : List ℕ)
         → writeModel (deviceLength g) lent i a (zeros (g .b)) (take (g .p) perm) endless
         ≡ claimed lent i (sliceOf g a) (offsetOf g a) ψ place (zeros (g .b)) endless
         → slot g i (sliceOf g a) < 15 * g .p → ψ < g .p → w .start ≤ place
         → maps′ ≡ set maps (slot g i (sliceOf g a)) ψ → owners′ ≡ set owners ψ (i + 1)
-        → Serves w ψ (offsetOf g a) (place + 1 - w .start) (g .b) w′ said
+        → drawn ≡ claimNeed g → Serves w ψ (offsetOf g a) (place + 1 - w .start) drawn w′ said
         → Answers (written state i a) (stateOf w′ maps′ owners′ perm) (answerBytes said)
-    claim-answers place maps′ owners′ e inside below from m o s =
+    claim-answers place drawn maps′ owners′ e inside below from m o n s =
         let next : w .start + (place + 1 - w .start) ≡ place + 1 = omega arith in
         rw (
           m,
           o,
           s .left,
           s .answered,
+          n,
           engineWrite-lent ∙ e,
           take-set-lt _ maps _ ψ inside,
           take-set-lt _ owners ψ (i + 1) below,
@@ -108,8 +109,8 @@ module _ (w : Walk) (maps owners perm : List ℕ) (i a : ℕ) (shuffled : w .shu
       → Answers (written state i a) (stateOf w′ maps owners perm) (answerBytes said)
   first-answers r e =
       refusal-answers r 0
-      (refused-first (deviceLength g) _ _ (w .position) (lent .session) i a (g .b) _ (4096 * 4096) r e (zeros (g .b)) endless
-      (zeros-length (g .b)) (zeros-length (4096 * 4096)))
+      (refused-first (deviceLength g) _ _ (w .position) (lent .session) i a (g .b) _ (4096 * 4112) r e (zeros (g .b)) endless
+      (zeros-length (g .b)) (zeros-length (4096 * 4112)))
 
   pub geometry-answers : (r : Refusal) → refusalNumber r ≡ badGeometry 20 g 0 → {w′ : Walk} {said : WalkAnswer}
       → (w′ ≡ w) × (said ≡ answer.Refused r) → Answers (written state i a) (stateOf w′ maps owners perm) (answerBytes said)

@@ -36,9 +36,9 @@ start = record { sized = false; shuffled = false; counted = 0; perm = []; held =
 unfoldable pub zeros : ℕ → List ℕ
 zeros n = replicate n 0
 
--- The endless tape: 4,096 frames 03, of which none takes more than 4,096 bytes, cannot use it up (`WalkLaws.listed`).
+-- The endless tape: 4,096 frames 03, of which none takes more than 4,112 bytes, cannot use it up (`WalkLaws.listed`).
 abbrev pub endless : List ℕ
-endless = zeros (4096 * 4096)
+endless = zeros (4096 * 4112)
 
 -- The engine's write of zeros to block address a of volume i, on a device of the right length; no write looks at its bytes.
 abbrev pub engineWrite : State → (i a : ℕ) → Outcome WriteResult

@@ -23,8 +23,8 @@ use refusals::Refusal;
 // Frames 03 of the right length, after which another is malformed.
 pub const MOST_CLAIMS: usize = 4096;
 
-// The bytes of the endless tape: 4,096 frames 03, of which none takes more than 4,096 bytes, cannot use it up.
-const TAPE: usize = MOST_CLAIMS * 4096;
+// The bytes of the endless tape: 4,096 frames 03, of which none takes more than 4,112 bytes, cannot use it up.
+const TAPE: usize = MOST_CLAIMS * 4112;
 
 // ---- the walk
 
@@ -88,7 +88,7 @@ fn move_to(walk: Walk, position: usize, start: usize) -> Walk
 
 // A served frame 03, which looked at so many places and took so many tape bytes.
 fn serve(walk: Walk, slice: usize, j: usize, probes: usize, drawn: usize) -> Answered
-    requires { ⌜ Allowed (walk .geometry) × (slice < walk .geometry .p) × (j < walk .geometry .s) × (walk .position + drawn ≤ 16777216)
+    requires { ⌜ Allowed (walk .geometry) × (slice < walk .geometry .p) × (j < walk .geometry .s) × (walk .position + drawn ≤ 4096 * 4112)
         × (walk .start + probes ≤ walk .geometry .p) ⌝ }
     ensures { λ r. ⌜ Serves walk slice j probes drawn (r .walk) (r .answer) ⌝ }
 {
@@ -140,7 +140,8 @@ pub fn claim(
         Decision::Rewrite(slice) => serve(walk, slice, address % g.s, 0, 16),
         Decision::Claim { slice, place } => {
             tables::assign(maps, owners, g, volume, address / g.s, slice);
-            serve(walk, slice, address % g.s, place + 1 - walk.start, g.b)
+            let drawn = deciding::claim_need(g);
+            serve(walk, slice, address % g.s, place + 1 - walk.start, drawn)
         }
     }
 }

@@ -1,3 +1,1 @@
-pub mod Carries
-pub mod MapBlocks
 pub mod Outcomes

@@ -1,71 +1,47 @@
--- Laws of a close by what its tests say: its refusals, and what it leaves. Assumes nothing.
-use Prim.Native.Nat.{ℕ, _+_, _*_, _≤_, _<_}
-use mathlib.Core.Path.{_≡_, refl, sym, _∙_}
-use mathlib.Core.Bool.{Bool, true, false}
+-- What a close leaves, whatever the tape position, by what its test says. Assumes nothing.
+use Prim.Native.Nat.{ℕ}
+use mathlib.Core.Path.{_≡_, refl, ap, _∙_}
 use mathlib.Core.List.{List}
-use native.Mathlib.Nat.{mul-le-mul, mul-le-mul-left}
-use native.Mathlib.Omega.{arith}
-use lib.ListN.{length}
-use Rattle.refusals.specs.Numbers.{refuse}
-use Rattle.refusals.proofs.Refuse.{refuse-none}
-use Rattle.model.specs.declared.Geometry.{Geometry}
+use lib.ListN.{length, replicate}
+use Rattle.refusals.specs.Numbers.{answerNumber}
+use Rattle.refusals.specs.declared.Answer.{Answer}
+use Rattle.refusals.specs.declared.Answer.the-variants.{Served, Refused}
+use Rattle.refusals.specs.declared.Refusal.{Refusal}
+use Rattle.refusals.proofs.Positive.{refusal-positive}
 use Rattle.model.specs.declared.Session.{Session}
-use Rattle.model.specs.Geometry.{Allowed, mapBlocks}
-use Rattle.model.specs.Session.{Held, held, geometry, standing, short}
-use Rattle.model.specs.Close.{anyBad, closeNeed, closeRefusal, closed, closeModel}
-use Rattle.model.proofs.Requests.{Stands, standing-none, standing-stands}
-use Rattle.model.proofs.Bounds.{mapBlocks-small}
-use Rattle.model.proofs.Order.{standing-first}
+use Rattle.model.specs.Parts.{patched}
+use Rattle.model.specs.Session.{held, unmapped, standing}
+use Rattle.model.specs.Close.{CloseResult, closedSession, closeModel}
+use Rattle.model.specs.Answers.{closeResult, Leaves}
+use Rattle.model.proofs.Requests.{standing-none}
+use Rattle.model.proofs.Order.{unless-refused}
 
--- ---- the tape bytes that a close needs
+module _ (device maps owners : List ℕ) (s : Session) where
+  -- What a close has to leave on tables and session.
+  abbrev Right : Answer → (maps owners : List ℕ) → Session → Type 0
+  Right result maps′ owners′ s′ =
+      (position : ℕ)
+      → Leaves CloseResult (closeModel (length device) (held maps owners position s)) device (closeResult result) device maps′ owners′ position s′
 
-pub closeNeed-small : (g : Geometry) → Allowed g → (k : ℕ) → k ≤ 14 → mapBlocks g * (k + 1) ≤ 17 * 15
-closeNeed-small g ok k l = mul-le-mul {n₂ = 17} {m₂ = 15} (mapBlocks-small g ok) (omega arith)
+  module _ (bad : Answer) (refusals : answerNumber bad ≡ standing (length device) (length maps) (length owners) s 0) where
+    pub close-refused : (r : Refusal) → bad ≡ Refused r → Right bad maps owners s
+    unfolding closeModel patched
+    close-refused r q position =
+        rw (← refusals, q, unless-refused _ _ _ (refusal-positive r))
+        (record { answered = refl; stored = refl; mapped = refl; owned = refl; moved = refl; handed = refl })
 
--- Those of volume v come behind those of the volumes before it.
-pub closeNeed-covers : (g : Geometry) (k v : ℕ) → v < k + 1 → 16 * (mapBlocks g * v) + 16 * mapBlocks g ≤ 16 * mapBlocks g * (k + 1)
-closeNeed-covers g k v l = omega (arith, mul-le-mul-left {m = v + 1} {n = k + 1} (mapBlocks g) (omega arith))
-
--- ---- refusals
-
-module _ (device : ℕ) (h : Held) (tape : ℕ) where
-  pub closeRefusal-first : let first = standing device (length (h .maps)) (length (h .owners)) (h .session) 0 in
-      0 < first → first ≡ closeRefusal device h tape
-  unfolding closeRefusal
-  closeRefusal-first l = sym (standing-first device (length (h .maps)) (length (h .owners)) (h .session) l _)
-
-  abbrev Bad : Bool
-  Bad = anyBad (geometry h .p) (h .session .counts) (h .maps) ((h .session .k + 1) * geometry h .p)
-
-  abbrev Short : Bool
-  Short = short tape (h .position) (closeNeed (h .session))
-
-  module _ (stands : Stands device (length (h .maps)) (length (h .owners)) (h .session)) where
-    pub closeRefusal-bad : Bad ≡ true → 9 ≡ closeRefusal device h tape
-    unfolding closeRefusal refuse
-    closeRefusal-bad bad = sym (standing-stands device _ _ (h .session) _ stands ∙ rw bad refl)
-
-    pub closeRefusal-short : Bad ≡ false → Short ≡ true → 21 ≡ closeRefusal device h tape
-    unfolding closeRefusal refuse
-    closeRefusal-short good few = sym (standing-stands device _ _ (h .session) _ stands ∙ rw (good, few) refl)
-
-    pub closeRefusal-served : Bad ≡ false → Short ≡ false → 0 ≡ closeRefusal device h tape
-    unfolding closeRefusal refuse
-    closeRefusal-served good enough = sym (standing-stands device _ _ (h .session) _ stands ∙ rw (good, enough) refl)
-
--- A close that is not refused is not refused with as many bytes elsewhere.
-pub closeRefusal-moved : (device : ℕ) (maps owners : List ℕ) (s : Session) (at tape at′ tape′ : ℕ)
-    → closeRefusal device (held maps owners at s) tape ≡ 0
-    → short tape′ at′ (closeNeed s) ≡ false → closeRefusal device (held maps owners at′ s) tape′ ≡ 0
-unfolding closeRefusal
-closeRefusal-moved device maps owners s at tape at′ tape′ e enough =
-    let p = standing-none device (length maps) (length owners) s _ e in
-    let good = refuse-none _ _ _ (p .1) .0 in
-    sym (closeRefusal-served device (held maps owners at′ s) tape′ (p .0) good enough)
-
--- ---- the outcome
-
-module _ (device : List ℕ) (h : Held) (tape : List ℕ) where
-  pub close-served : closeRefusal (length device) h (length tape) ≡ 0 → closeModel (length device) h tape ≡ closed h tape
-  unfolding closeModel
-  close-served e = rw e refl
+    pub close-served : bad ≡ Served → {maps′ owners′ : List ℕ} {s′ : Session} → maps′ ≡ replicate (length maps) unmapped
+        → owners′ ≡ replicate (length owners) 0 → s′ ≡ closedSession s → Right Served maps′ owners′ s′
+    unfolding closeModel patched
+    close-served q m o h position =
+        let none : standing (length device) (length maps) (length owners) s 0 ≡ 0 = rw (← refusals, q) refl in
+        let tables = standing-none _ _ _ _ _ none .0 .tables in
+        rw none
+        (record {
+          answered = refl;
+          stored = refl;
+          mapped = m ∙ ap (λ (n : ℕ). replicate n unmapped) (tables .0);
+          owned = o ∙ ap (λ (n : ℕ). replicate n 0) (tables .1);
+          moved = refl;
+          handed = h;
+        })

@@ -8,7 +8,7 @@ use lib.ListN.{length}
 use borrow.Author.Tests.{lt-ltb, le-ltb}
 use Rattle.refusals.specs.Numbers.{refusalNumber}
 use Rattle.refusals.specs.declared.Refusal.{Refusal}
-use Rattle.refusals.specs.declared.Refusal.the-variants.{TapeShort, BadPermutation}
+use Rattle.refusals.specs.declared.Refusal.the-variants.{TapeShort, BadPermutation, BadEntry}
 use Rattle.refusals.proofs.Positive.{refusal-positive}
 use Rattle.model.specs.declared.Geometry.{Geometry}
 use Rattle.model.specs.declared.Session.{Session}
@@ -16,7 +16,8 @@ use Rattle.model.specs.declared.Search.{Search}
 use Rattle.model.specs.declared.Search.the-variants.{Free, Bad}
 use Rattle.model.specs.Session.{Held, held, sliceOf, offsetOf, entryOf, short}
 use Rattle.model.specs.Search.{firstFree}
-use Rattle.model.specs.Write.{probesTo, rewriteOutcome, claimOutcome, writeRefusal, writeModel}
+use Rattle.model.specs.Maps.{badInBlock}
+use Rattle.model.specs.Write.{probesTo, rewriteOutcome, claimNeed, claimOutcome, writeRefusal, writeModel}
 use Rattle.model.proofs.Requests.{Writable, short-false}
 use Rattle.model.proofs.Order.{unless-refused}
 use Rattle.model.proofs.Searches.{firstFree-free, firstFree-bad}
@@ -75,30 +76,34 @@ module _ (device : ℕ) (maps owners : List ℕ) (position : ℕ) (s : Session) 
         let f = firstFree-free owners (g .p) perm (s .start) ψ place q in
         record { from = f .2; inside = omega (arith, f .1, w .places) }
 
-    module _ (x : ℕ) (e : x ≡ entryOf maps g i a) (past : g .p ≤ x) (found : Search)
-        (f : firstFree owners (g .p) (s .start) perm ≡ found) where
-      unmapped-searched : (text bytes : List ℕ) → length text ≡ len
-          → writeModel device lent i a text perm bytes ≡ claimOutcome lent i (sliceOf g a) (offsetOf g a) text bytes found
+    module _ (x : ℕ) (e : x ≡ entryOf maps g i a) (past : g .p ≤ x) where
+      pub claim-block : badInBlock maps s i (sliceOf g a) ≡ true → Right (Refused BadEntry 0)
       unfolding writeModel
-      unmapped-searched text bytes t = rw (t, w .none, ← e, le-ltb x (g .p) past, f)
+      claim-block q text bytes t b = rw (t, w .none, ← e, le-ltb x (g .p) past, q)
 
-      pub claim-bad : (place : ℕ) → found ≡ Bad place → (n : ℕ) → n ≡ probesTo s place → Right (Refused BadPermutation n)
-      claim-bad place q n looks text bytes t b = unmapped-searched text bytes t ∙ rw (q, looks) refl
+      module _ (fine : badInBlock maps s i (sliceOf g a) ≡ false) (found : Search) (f : firstFree owners (g .p) (s .start) perm ≡ found) where
+        unmapped-searched : (text bytes : List ℕ) → length text ≡ len
+            → writeModel device lent i a text perm bytes ≡ claimOutcome lent i (sliceOf g a) (offsetOf g a) text bytes found
+        unfolding writeModel
+        unmapped-searched text bytes t = rw (t, w .none, ← e, le-ltb x (g .p) past, fine, f)
 
-      pub claim-full : found ≡ Search.Full → Right Full
-      claim-full q text bytes t b = (unmapped-searched text bytes t ∙ rw q refl, w .stands .usable .place)
+        pub claim-bad : (place : ℕ) → found ≡ Bad place → (n : ℕ) → n ≡ probesTo s place → Right (Refused BadPermutation n)
+        claim-bad place q n looks text bytes t b = unmapped-searched text bytes t ∙ rw (q, looks) refl
 
-      module _ (ψ place : ℕ) (q : found ≡ Free ψ place) where
-        pub claim-short : short tape position (g .b) ≡ true → (n : ℕ) → n ≡ probesTo s place → Right (Refused TapeShort n)
-        claim-short z n looks text bytes t b = unmapped-searched text bytes t ∙ rw (q, b, z, looks) refl
+        pub claim-full : found ≡ Search.Full → Right Full
+        claim-full q text bytes t b = (unmapped-searched text bytes t ∙ rw q refl, w .stands .usable .place)
 
-        pub claim-served : short tape position (g .b) ≡ false → Right (Claim ψ place)
-        claim-served z text bytes t b = (
-          record {
-            outcome = unmapped-searched text bytes t ∙ rw (q, b, z) refl;
-            none = rw t (w .none);
-            slice = firstFree-free owners (g .p) perm (s .start) ψ place (f ∙ q) .0;
-            enough = rw b (short-false _ _ _ z);
-          },
-          free-place ψ place (f ∙ q),
-        )
+        module _ (ψ place : ℕ) (q : found ≡ Free ψ place) where
+          pub claim-short : short tape position (claimNeed g) ≡ true → (n : ℕ) → n ≡ probesTo s place → Right (Refused TapeShort n)
+          claim-short z n looks text bytes t b = unmapped-searched text bytes t ∙ rw (q, b, z, looks) refl
+
+          pub claim-served : short tape position (claimNeed g) ≡ false → Right (Claim ψ place)
+          claim-served z text bytes t b = (
+            record {
+              outcome = unmapped-searched text bytes t ∙ rw (q, b, z) refl;
+              none = rw t (w .none);
+              slice = firstFree-free owners (g .p) perm (s .start) ψ place (f ∙ q) .0;
+              enough = rw b (short-false _ _ _ z);
+            },
+            free-place ψ place (f ∙ q),
+          )

@@ -7,7 +7,7 @@ use Rattle.refusals.specs.Numbers.{refusalNumber}
 use Rattle.model.specs.declared.Session.{Session}
 use Rattle.model.specs.Session.{Held, Outcome, geometry, sliceOf, offsetOf, idle}
 use Rattle.model.specs.Conditions.{Enough}
-use Rattle.model.specs.Write.{WriteResult, rewritten, claimed, full, writeRefusal, writeModel}
+use Rattle.model.specs.Write.{WriteResult, rewritten, claimed, claimNeed, full, writeRefusal, writeModel}
 use Rattle.deciding.specs.declared.Decision.{Decision}
 use Rattle.deciding.specs.declared.Decision.the-variants.{Refused, Full, Rewrite, Claim}
 
@@ -33,15 +33,22 @@ Decided device h i a text perm tape Full = (writeModel device h i a text perm ta
 Decided device h i a text perm tape (Rewrite ψ) =
     Serves device h i a text perm tape (rewritten h i ψ (offsetOf (geometry h) a) text tape) ψ 16
 Decided device h i a text perm tape (Claim ψ place) =
-    Serves device h i a text perm tape (claimed h i (sliceOf (geometry h) a) (offsetOf (geometry h) a) ψ place text tape) ψ (geometry h .b)
+    Serves device h i a text perm tape (claimed h i (sliceOf (geometry h) a) (offsetOf (geometry h) a) ψ place text tape) ψ (claimNeed (geometry h))
     × Looked (h .session) place
+
+-- The block of a claim is small, so that the tape bytes of a claim are a number of the machine.
+abbrev pub Sized : Session → Decision → Type 0
+Sized s (Refused r probes) = Unit {0}
+Sized s Full = Unit {0}
+Sized s (Rewrite ψ) = Unit {0}
+Sized s (Claim ψ place) = s .geometry .b ≤ 4096
 
 -- The tape bytes that a decision draws.
 abbrev pub needed : Session → Decision → ℕ
 needed s (Refused r probes) = 0
 needed s Full = 0
 needed s (Rewrite ψ) = 16
-needed s (Claim ψ place) = s .geometry .b
+needed s (Claim ψ place) = claimNeed (s .geometry)
 
 -- What carrying a decision out comes to, its bytes drawn from a tape.
 abbrev pub carried : Held → (i a : ℕ) → (text tape : List ℕ) → Decision → Outcome WriteResult
@@ -64,4 +71,4 @@ Ready device maps owners s i a text drawn (Refused r probes) = Unit {0}
 Ready device maps owners s i a text drawn Full = s .start ≤ s .geometry .p
 Ready device maps owners s i a text drawn (Rewrite ψ) = Fits device maps owners s i a text drawn ψ 16
 Ready device maps owners s i a text drawn (Claim ψ place) =
-    Fits device maps owners s i a text drawn ψ (s .geometry .b) × Looked s place
+    Fits device maps owners s i a text drawn ψ (claimNeed (s .geometry)) × Looked s place

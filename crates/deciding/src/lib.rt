@@ -1,14 +1,16 @@
-// What a write is to do, before anything is written: the refusals in their order, the search of a claim, and the tape.
+// What a write is to do, before anything is written: the refusals in their order, the map block and the search of a claim, and the
+// tape.
 //
 // `decide` takes any arguments. It looks at the tables and at the lengths of device, text and tape, never at their bytes.
 ghost use mathlib.Core.Path.{_≡_};
 ghost use mathlib.Core.List.{List};
-ghost use Prim.Native.Nat.{ℕ};
+ghost use Prim.Native.Nat.{ℕ, _≤_};
 ghost use lib.ListN.{length};
 ghost use Rattle.refusals.specs.Numbers.{answerNumber};
 ghost use Rattle.model.specs.Session.{held};
-ghost use Rattle.model.specs.Write.{writeRefusal, probesTo};
-ghost use Rattle.deciding.specs.Decided.{Decided, Looked, needed};
+ghost use Rattle.model.specs.Write.{claimNeed, writeRefusal, probesTo};
+ghost use Rattle.deciding.specs.Decided.{Decided, Looked, Sized, needed};
+use model::Geometry;
 use model::Search;
 use model::Session;
 use refusals::Answer;
@@ -56,6 +58,14 @@ pub fn probes_to(session: Session, place: usize) -> usize
     place + 1 - session.start
 }
 
+// The tape bytes of a claim: its IV block, then the IV of the map block that has its entry (document 02, P7).
+pub fn claim_need(g: Geometry) -> usize
+    requires { ⌜ g .b ≤ 4096 ⌝ }
+    ensures { λ r. ⌜ r ≡ claimNeed g ⌝ }
+{
+    g.b + 16
+}
+
 // The decision on a write of len bytes to a device of so many bytes, with a tape of so many bytes and its position. What
 // it says holds of the model's write for every text and every tape of these lengths.
 pub fn decide(
@@ -90,7 +100,8 @@ pub fn decide(
         };
     }
     let g = session.geometry;
-    let entry = tables::entry_at(maps, g, volume, address / g.s);
+    let logical = address / g.s;
+    let entry = tables::entry_at(maps, g, volume, logical);
     if entry < g.p {
         if tape::is_short(tape, position, 16) {
             return Decision::Refused {
@@ -100,6 +111,12 @@ pub fn decide(
         }
         return Decision::Rewrite(entry);
     }
+    if requests::is_block_bad(maps, session, volume, logical) {
+        return Decision::Refused {
+            refusal: Refusal::BadEntry,
+            probes: 0,
+        };
+    }
     let found = tables::first_free(owners, perm, session.start);
     match found {
         Search::Bad(place) => Decision::Refused {
@@ -108,7 +125,7 @@ pub fn decide(
         },
         Search::Full => Decision::Full,
         Search::Free { slice, place } => {
-            if tape::is_short(tape, position, g.b) {
+            if tape::is_short(tape, position, claim_need(g)) {
                 return Decision::Refused {
                     refusal: Refusal::TapeShort,
                     probes: probes_to(session, place),
@@ -124,6 +141,7 @@ pub fn decide(
 
 // The tape bytes that a decision draws.
 pub fn need(decision: Decision, session: Session) -> usize
+    requires { ⌜ Sized session decision ⌝ }
     ensures { λ r. ⌜ r ≡ needed session decision ⌝ }
 {
     let g = session.geometry;
@@ -141,7 +159,7 @@ pub fn need(decision: Decision, session: Session) -> usize
             return 16;
         }
         Decision::Claim { slice: _, place: _ } => {
-            return g.b;
+            return claim_need(g);
         }
     }
 }

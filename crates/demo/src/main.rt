@@ -1,6 +1,6 @@
-// A demonstration of the engine: a small device image with two volumes is formatted, a permutation is drawn for it, it is opened, written
-// and read, a slice of it is given back and claimed again, and it is closed and opened again with either key and with one that opens
-// nothing; every answer is printed.
+// A demonstration of the engine: a small device image with two volumes is formatted, a permutation is drawn for it, and it is opened, read
+// and changed by sessions that are dropped without a close, each of which finds what the one before it left. A last one is closed, which
+// wipes it; then the image is opened with the key of the lower volume, and with one that opens nothing. Every answer is printed.
 // Keys and tape are fixed bytes here, so that each run prints the same; a real device has them drawn at random.
 use libc::STDOUT_FILENO;
 use model::Change;
@@ -94,7 +94,7 @@ fn say_write(answer: WriteAnswer, position: usize) {
     say_position(position);
 }
 
-fn say_release(answer: ReleaseAnswer, start: usize) {
+fn say_release(answer: ReleaseAnswer, start: usize, position: usize) {
     match answer {
         ReleaseAnswer::Freed(slice) => {
             say(b"freed slice ");
@@ -107,7 +107,7 @@ fn say_release(answer: ReleaseAnswer, start: usize) {
     }
     say(b", start place ");
     say_number(start);
-    say(b"\n");
+    say_position(position);
 }
 
 fn say_answer(answer: Answer) {
@@ -144,7 +144,7 @@ fn caller_keys() -> [u8; 64] {
     keys
 }
 
-// Bytes that differ from place to place: the tape, and a text.
+// Bytes that differ from place to place, for the tape.
 fn fill(bytes: &mut [u8]) {
     let mut i = 0;
     while i < bytes.len() {
@@ -195,14 +195,13 @@ fn show_drawing(perm: &mut [u32], tape: &[u8], at: &mut usize) {
 }
 
 fn show_open(
-    words: &[u8],
     device: &[u8],
     key: usize,
     maps: &mut [u32],
     owners: &mut [u8],
     perm: &[u32],
 ) -> Session {
-    say(words);
+    say(b"open with key ");
     say_number(key);
     say(b": ");
     let o = opening::open(device, geometry(), &caller_key(key), maps, owners, perm);
@@ -250,6 +249,7 @@ fn show_read(
     say(b"\n");
 }
 
+// Block 5 written, with bytes that tell the session.
 fn show_write(
     device: &mut [u8],
     maps: &mut [u32],
@@ -259,11 +259,12 @@ fn show_write(
     at: &mut usize,
     session: Session,
     volume: usize,
-    text: &[u8],
-) -> Session {
+    n: usize,
+) {
     say(b"write block 5 of volume ");
     say_number(volume);
     say(b": ");
+    let text = [(1 + n % 3) as u8; 1024];
     let w = lending::write_at(
         device,
         maps,
@@ -274,216 +275,135 @@ fn show_write(
         session,
         volume,
         5,
-        text,
+        &text,
     );
     let position = *at;
     let answer = w.answer;
     say_write(answer, position);
-    let left = w.session;
-    left
-}
-
-// Block 5 of volume 1 written twice: claimed, then rewritten.
-fn show_twice(
-    device: &mut [u8],
-    maps: &mut [u32],
-    owners: &mut [u8],
-    perm: &[u32],
-    tape: &[u8],
-    at: &mut usize,
-    session: Session,
-    text: &[u8],
-) -> Session {
-    let next = show_write(device, maps, owners, perm, tape, at, session, 1, text);
-    show_write(device, maps, owners, perm, tape, at, next, 1, text)
-}
-
-// Block 5 of volume 0, which is open too, and of volume 2, which is above the opened one.
-fn show_others(
-    device: &mut [u8],
-    maps: &mut [u32],
-    owners: &mut [u8],
-    perm: &[u32],
-    tape: &[u8],
-    at: &mut usize,
-    session: Session,
-) -> Session {
-    let text = [7u8; 1024];
-    let next = show_write(device, maps, owners, perm, tape, at, session, 0, &text);
-    show_write(device, maps, owners, perm, tape, at, next, 2, &text)
 }
 
 fn show_find(device: &[u8], maps: &[u32], owners: &[u8], session: Session) {
-    say(b"find block 5 of volume 1: a part of ");
-    say_number(reading::find(device, maps, owners, session, 1, 5).len());
+    say(b"find block 5 of volume 0: a part of ");
+    say_number(reading::find(device, maps, owners, session, 0, 5).len());
     say(b" bytes\n");
 }
 
 fn show_release(
-    device: &[u8],
+    device: &mut [u8],
     maps: &mut [u32],
     owners: &mut [u8],
     perm: &[u32],
+    tape: &[u8],
+    at: &mut usize,
     session: Session,
-) -> Session {
-    say(b"release logical slice 1 of volume 1: ");
-    let r = releasing::release(device, maps, owners, perm, session, 1, 1);
+    volume: usize,
+) {
+    say(b"release logical slice 1 of volume ");
+    say_number(volume);
+    say(b": ");
+    let r = lending::release_at(device, maps, owners, perm, tape, at, session, volume, 1);
+    let position = *at;
     let answer = r.answer;
     let left = r.session;
-    say_release(answer, left.start);
-    left
+    say_release(answer, left.start, position);
 }
 
-// The slice of block 5 of volume 1 given back, which is refused once there is none.
-fn show_releases(
-    device: &[u8],
-    maps: &mut [u32],
-    owners: &mut [u8],
-    perm: &[u32],
-    session: Session,
-) -> Session {
-    let next = show_release(device, maps, owners, perm, session);
-    show_release(device, maps, owners, perm, next)
-}
-
-// After that the block is read, and written again.
-fn show_giving_back(
-    device: &mut [u8],
-    maps: &mut [u32],
-    owners: &mut [u8],
-    perm: &[u32],
-    tape: &[u8],
-    at: &mut usize,
-    session: Session,
-    text: &[u8],
-) -> Session {
-    let next = show_releases(device, maps, owners, perm, session);
-    show_read(device, maps, owners, next, 1, 5);
-    show_write(device, maps, owners, perm, tape, at, next, 1, text)
-}
-
-fn show_close(
-    device: &mut [u8],
-    maps: &mut [u32],
-    owners: &mut [u8],
-    tape: &[u8],
-    at: &mut usize,
-    session: Session,
-) -> Session {
+fn show_close(device: &[u8], maps: &mut [u32], owners: &mut [u8], session: Session) -> Session {
     say(b"close: ");
-    let r = lending::close_at(device, maps, owners, tape, at, session);
+    let r = closing::close(device, maps, owners, session);
     let answer = r.answer;
     say_answer(answer);
-    let position = *at;
-    say_position(position);
+    say(b"\n");
     let closed = r.session;
     closed
 }
 
-// The writes of one session, each handed what the one before it leaves, and where the block of volume 1 is found.
-fn show_writes(
-    device: &mut [u8],
-    maps: &mut [u32],
-    owners: &mut [u8],
-    perm: &[u32],
-    tape: &[u8],
-    at: &mut usize,
-    session: Session,
-    text: &[u8],
-) -> Session {
-    let once = show_twice(device, maps, owners, perm, tape, at, session, text);
-    let twice = show_others(device, maps, owners, perm, tape, at, once);
-    show_find(device, maps, owners, twice);
-    twice
-}
+// ---- the sessions: each has tables of its own, so that nothing but the device tells it what those before it did
 
-// What an open session is asked.
-fn show_requests(
-    device: &mut [u8],
-    maps: &mut [u32],
-    owners: &mut [u8],
-    perm: &[u32],
-    tape: &[u8],
-    at: &mut usize,
-    session: Session,
-    text: &[u8],
-) -> Session {
-    let next = show_writes(device, maps, owners, perm, tape, at, session, text);
-    show_giving_back(device, maps, owners, perm, tape, at, next, text)
-}
-
-// That, the session's close, and a request after it.
-fn show_work(
-    device: &mut [u8],
-    maps: &mut [u32],
-    owners: &mut [u8],
-    perm: &[u32],
-    tape: &[u8],
-    at: &mut usize,
-    session: Session,
-    text: &[u8],
-) {
-    let left = show_requests(device, maps, owners, perm, tape, at, session, text);
-    let closed = show_close(device, maps, owners, tape, at, left);
-    show_read(device, maps, owners, closed, 1, 5);
-}
-
-// One session with key 1. Volume 1 has 8 blocks, so that block 8 is past its end.
+// Session n with key 1: block 5 of a volume is read, and then written; from session 3 on its logical slice is released instead. The session
+// is dropped without a close.
 fn show_session(
     device: &mut [u8],
-    maps: &mut [u32],
-    owners: &mut [u8],
     perm: &[u32],
     tape: &[u8],
     at: &mut usize,
-    text: &[u8],
+    volume: usize,
+    n: usize,
 ) {
-    let session = show_open(b"open with key ", device, 1, maps, owners, perm);
-    show_read(device, maps, owners, session, 1, 5);
-    show_read(device, maps, owners, session, 1, 8);
-    show_work(device, maps, owners, perm, tape, at, session, text);
-}
-
-// The device opened again with key 1: what was written is there.
-fn show_upper(device: &[u8], maps: &mut [u32], owners: &mut [u8], perm: &[u32]) {
-    let session = show_open(b"open again with key ", device, 1, maps, owners, perm);
-    show_read(device, maps, owners, session, 1, 5);
-}
-
-// With key 0: volume 0 as before, and no volume 1.
-fn show_lower(device: &[u8], maps: &mut [u32], owners: &mut [u8], perm: &[u32]) {
-    let session = show_open(b"open again with key ", device, 0, maps, owners, perm);
-    show_read(device, maps, owners, session, 0, 5);
-    show_read(device, maps, owners, session, 1, 5);
-}
-
-// With each key, and with one that opens nothing.
-fn show_again(device: &[u8], maps: &mut [u32], owners: &mut [u8], perm: &[u32]) {
-    show_upper(device, maps, owners, perm);
-    show_lower(device, maps, owners, perm);
-    show_open(b"open again with key ", device, 2, maps, owners, perm);
-}
-
-fn show(device: &mut [u8], tape: &[u8], text: &[u8]) {
-    let mut perm = [0u32; 4];
     let mut maps = [0u32; 60];
     let mut owners = [0u8; 4];
+    let session = show_open(device, 1, &mut maps, &mut owners, perm);
+    show_read(device, &maps, &owners, session, volume, 5);
+    if n < 3 {
+        show_write(
+            device,
+            &mut maps,
+            &mut owners,
+            perm,
+            tape,
+            at,
+            session,
+            volume,
+            n,
+        );
+    } else {
+        show_release(
+            device,
+            &mut maps,
+            &mut owners,
+            perm,
+            tape,
+            at,
+            session,
+            volume,
+        );
+    }
+}
+
+// A claim, a rewrite, a claim for volume 0, which is open too, a release, and one that is refused, since there is no slice.
+fn show_sessions(device: &mut [u8], perm: &[u32], tape: &[u8], at: &mut usize) {
+    let volumes = [1usize, 1, 0, 1, 1];
+    let mut n = 0;
+    while n < 5 {
+        show_session(device, perm, tape, at, volumes[n], n);
+        n += 1;
+    }
+}
+
+// A session that is closed, and refuses what comes after. Volume 1 has 8 blocks, so that block 8 is past its end.
+fn show_closing(device: &[u8], perm: &[u32]) {
+    let mut maps = [0u32; 60];
+    let mut owners = [0u8; 4];
+    let session = show_open(device, 1, &mut maps, &mut owners, perm);
+    show_read(device, &maps, &owners, session, 1, 8);
+    let closed = show_close(device, &mut maps, &mut owners, session);
+    show_read(device, &maps, &owners, closed, 1, 5);
+}
+
+// With key 0: volume 0 as it was left, and no volume 1. With a key that opens nothing.
+fn show_others(device: &[u8], perm: &[u32]) {
+    let mut maps = [0u32; 60];
+    let mut owners = [0u8; 4];
+    let session = show_open(device, 0, &mut maps, &mut owners, perm);
+    show_read(device, &maps, &owners, session, 0, 5);
+    show_find(device, &maps, &owners, session);
+    show_read(device, &maps, &owners, session, 1, 5);
+    show_open(device, 2, &mut maps, &mut owners, perm);
+}
+
+fn show(device: &mut [u8], tape: &[u8]) {
+    let mut perm = [0u32; 4];
     let mut at: usize = 0;
     show_making(device, tape, &mut at);
     show_drawing(&mut perm, tape, &mut at);
-    show_session(device, &mut maps, &mut owners, &perm, tape, &mut at, text);
-    show_again(device, &mut maps, &mut owners, &perm);
-}
-
-fn run(device: &mut [u8], tape: &mut [u8], text: &mut [u8]) {
-    fill(tape);
-    fill(text);
-    show(device, tape, text);
+    show_sessions(device, &perm, tape, &mut at);
+    show_closing(device, &perm);
+    show_others(device, &perm);
 }
 
 fn main() {
     let mut device = [0u8; 52224];
-    let mut tape = [0u8; 56320];
-    let mut text = [0u8; 1024];
-    run(&mut device, &mut tape, &mut text);
+    let mut tape = [0u8; 55296];
+    fill(&mut tape);
+    show(&mut device, &tape);
 }

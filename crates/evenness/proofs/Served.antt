@@ -5,7 +5,6 @@ use mathlib.Core.List.{List, [], _∷_}
 use native.Mathlib.Omega.{arith}
 use native.Mathlib.Nat.{mod-lt, div-add-mod', div-lt-iff-lt-mul}
 use lib.ListN.{length, getD, drop, take-append-drop}
-use borrow.Author.Tests.{ltb-false}
 use Rattle.model.specs.declared.Geometry.{Geometry}
 use Rattle.model.specs.Session.{Held, LentResult, geometry}
 use Rattle.model.specs.Conditions.{Names, Accepts, Drawing, DrawnFrom}
@@ -14,11 +13,10 @@ use Rattle.model.specs.Write.{WriteResult}
 use Rattle.model.specs.Release.{ReleaseResult}
 use Rattle.guarantees.specs.Openings.{OpenAnswered}
 use Rattle.guarantees.specs.Points.{WriteAnswered, ReleaseAnswered}
-use Rattle.guarantees.proofs.Chains.{first-leads, other, leads-barred}
+use Rattle.guarantees.proofs.Chains.{first-leads, skip, leads-barred}
 use Rattle.model.specs.Shuffle.{inOrder, ordering, draws, Run, Accepted, Ended, run, shuffleRefusal, shuffled, shuffleModel}
 use Rattle.model.specs.Answers.{lentNumber, lentList, lentPosition}
-use Rattle.refusals.proofs.Refuse.{refuse-none}
-use Rattle.model.proofs.Tests.{badGeometry-none}
+use Rattle.model.proofs.Requests.{shuffleRefusal-none}
 use Rattle.guarantees.proofs.Cases.{unless-cases}
 use Rattle.model.proofs.Permutations.{names-below}
 use Rattle.model.proofs.Shuffles.{drawing-run}
@@ -40,7 +38,7 @@ pub open-not-5 : {device : List ℕ} {g : Geometry} {key maps owners perm : List
 unfolding refusalOf
 open-not-5 (OpenAnswered.handed-wrong n ne first) names e =
     leads-barred (first-leads _ first)
-    (other (omega arith), (other (omega arith), (other (omega arith), (other (omega arith), ((λ q f. f names), tt))))) (omega arith) (ap refusalOf e)
+    (skip refl (skip refl (skip refl (skip refl ((λ q f. f names), tt))))) (omega arith) (ap refusalOf e)
 open-not-5 (OpenAnswered.no-cell ok shut) names e = another 6 (omega arith) (ap refusalOf e)
 open-not-5 (OpenAnswered.header-tag ok k top low i vmk way wrong) names e = another 7 (omega arith) (ap refusalOf e)
 open-not-5 (OpenAnswered.header-geometry ok k top low i vmk text way opens fits) names e = another 8 (omega arith) (ap refusalOf e)
@@ -60,49 +58,25 @@ unfolding refusalIn
 write-not-5 (WriteAnswered.rewritten place ends first mapped) names probes e = another 0 (omega arith) (ap refusalIn e)
 write-not-5 (WriteAnswered.claimed place free first unmapped) names probes e = another 0 (omega arith) (ap refusalIn e)
 write-not-5 {h} {perm} (WriteAnswered.refused place n count ne ends first) names probes e =
-    leads-barred (first-leads _ first) (
-      other (omega arith),
-      (
-        other (omega arith),
-        (
-          other (omega arith),
-          (
-            (λ q f. f (names .places)),
-            (
-              other (omega arith),
-              (
-                other (omega arith),
-                (
-                  other (omega arith),
-                  (
-                    other (omega arith),
-                    (
-                      other (omega arith),
-                      (
-                        (λ q bad. omega (arith, bad .1 .bad, names-below (geometry h .p) perm names place (bad .1 .inside))),
-                        (other (omega arith), (other (omega arith), tt)),
-                      ),
-                    ),
-                  ),
-                ),
-              ),
-            ),
-          ),
-        ),
-      ),
-    ) (omega arith) (ap refusalIn e)
+    leads-barred (first-leads _ first)
+    (skip refl (skip refl (skip refl (
+      (λ q f. f (names .places)),
+      skip refl (skip refl (skip refl (skip refl (skip refl (skip refl
+          ((λ q bad. omega (arith, bad .1 .bad, names-below (geometry h .p) perm names place (bad .1 .inside))), skip refl (skip refl tt))))))),
+    ))))
+    (omega arith) (ap refusalIn e)
 
 refusedBy : ReleaseResult → ℕ
 refusedBy (ReleaseResult.Freed ψ) = 0
 refusedBy (ReleaseResult.Refused n) = n
 
-pub release-not-5 : {device : ℕ} {h : Held} {i σ : ℕ} {perm : List ℕ} {r : ReleaseResult}
-    → ReleaseAnswered device h i σ perm r → Names (geometry h .p) perm → r ≡ ReleaseResult.Refused 5 → ⊥
+pub release-not-5 : {device : ℕ} {h : Held} {i σ : ℕ} {perm tape : List ℕ} {r : ReleaseResult}
+    → ReleaseAnswered device h i σ perm tape r → Names (geometry h .p) perm → r ≡ ReleaseResult.Refused 5 → ⊥
 unfolding refusedBy
 release-not-5 (ReleaseAnswered.served first) names e = another 0 (omega arith) (ap refusedBy e)
 release-not-5 (ReleaseAnswered.refused n ne first) names e =
     leads-barred (first-leads _ first)
-    (other (omega arith), (other (omega arith), (other (omega arith), ((λ q f. f names), (other (omega arith), (other (omega arith), (other (omega arith), (other (omega arith), tt)))))))) (omega arith)
+    (skip refl (skip refl (skip refl ((λ q f. f names), skip refl (skip refl (skip refl (skip refl (skip refl tt)))))))) (omega arith)
     (ap refusedBy e)
 
 -- ---- runs
@@ -170,11 +144,11 @@ module _ (g : Geometry) (list : ℕ) (tape : List ℕ) (position : ℕ) (perm : 
   ran-by inside Ended q e = let z : _≡_ {A = ℕ} 21 0 = ap lentNumber e in absurd (omega (arith, z))
 
   pub ran : shuffleModel g list tape position ≡ LentResult.Served perm after → Ran
-  unfolding shuffleModel shuffleRefusal
+  unfolding shuffleModel
   ran =
       unless-cases (λ (r : LentResult). r ≡ LentResult.Served perm after → Ran) (shuffleRefusal g list (length tape) position) _ _
       (λ n e q. let z : _≡_ {A = ℕ} (suc n) 0 = ap lentNumber q in absurd (omega (arith, z)))
-      (λ e q. ran-by (ltb-false _ _ (refuse-none _ _ _ (refuse-none _ _ _ (badGeometry-none 0 g _ e .1) .1) .0)) (run i (draws left)) refl q)
+      (λ e q. ran-by (shuffleRefusal-none g list (length tape) position e .inside) (run i (draws left)) refl q)
 
   -- Draws from the position on are the accepted ones.
   pub ran-draws : Ran → (ds : List ℕ) (n : ℕ) → DrawnFrom tape position i ds n → perm ≡ ordering (g .p) ds

@@ -31,8 +31,8 @@ pub record ShuffledOrders : Type 0 where
       → openModel device g key maps owners perm .answer ≡ NotOpened 5 → ⊥
   pub writes : (h : Held) (perm : List ℕ) → Made (geometry h) perm → (device i a : ℕ) (text tape : List ℕ) (probes : ℕ)
       → writeModel device h i a text perm tape .answer ≡ WriteResult.Refused 5 probes → ⊥
-  pub releases : (h : Held) (perm : List ℕ) → Made (geometry h) perm → (device i σ : ℕ)
-      → releaseModel device h i σ perm .answer ≡ ReleaseResult.Refused 5 → ⊥
+  pub releases : (h : Held) (perm : List ℕ) → Made (geometry h) perm → (device i σ : ℕ) (tape : List ℕ)
+      → releaseModel device h i σ perm tape .answer ≡ ReleaseResult.Refused 5 → ⊥
   -- It is the ordering of the draws that were accepted, and the tape position is after the last of their bytes. So two tapes with the
   -- same accepted draws make the same permutation, whatever was thrown away between them.
   pub accepted : (g : Geometry) (list : ℕ) (tape : List ℕ) (position : ℕ) (perm : List ℕ) (after : ℕ) → Leaves g list tape position perm after

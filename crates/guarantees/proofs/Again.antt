@@ -1,44 +1,37 @@
--- Closed and opened again with the same key: the same volumes, with the same arrays. Assumes nothing.
+-- A device that a session left, opened again with the same key: the same volumes, with the same arrays. Assumes nothing.
 use Prim.Native.Nat.{ℕ, _+_, _*_, _/_, _%_, _≤_, _<_}
 use mathlib.Core.Path.{_≡_, refl, sym, ap, ap₂, _∙_, subst}
 use mathlib.Core.List.{List, [], _∷_}
-use mathlib.Core.Logic.{inl, inr, ⊎-elim}
+use mathlib.Core.Logic.{_⊎_, inl, inr, ⊎-elim}
 use native.Mathlib.Omega.{arith}
 use native.Mathlib.Nat.{div-add-mod', mod-lt, div-lt-iff-lt-mul, mul-le-mul-left, mul-le-mul-right}
 use lib.ListN.{length}
 use Rattle.gcm.specs.Gcm.{gcmOpen}
 use Rattle.model.specs.declared.Geometry.{Geometry}
 use Rattle.model.specs.declared.Session.{Session}
-use Rattle.model.specs.Parts.{part, patched}
-use Rattle.model.specs.Geometry.{mapBlocks, headerBlocks, cellStart, cellOf, headerStart, headerOf, mapStart, sliceStart, ivStart, blockStart}
-use Rattle.model.specs.Session.{Held, held, Outcome, keyOf, sliceOf, offsetOf, startingAt}
+use Rattle.model.specs.Parts.{part}
+use Rattle.model.specs.Geometry.{Allowed, mapBlocks, headerBlocks, cellStart, cellOf, headerStart, headerOf, mapStart, sliceStart}
+use Rattle.model.specs.Session.{Held, held, keyOf, sliceOf, offsetOf, unmapped, startingAt}
 use Rattle.model.specs.Opening.{openHeader, storedEntry, mapEntries, Tables, loadMaps, OpenOutcome, allKeys, allCounts}
 use Rattle.model.specs.Read.{deciphered}
-use Rattle.model.specs.Close.{CloseResult, mapPatches, closeNeed, closed, closeModel}
-use Rattle.guarantees.specs.Runs.{State, Closing, Closes, outcome, next}
-use Rattle.model.specs.Geometry.{Allowed}
-use Rattle.model.specs.Conditions.{TablesFit, EntryFitsAt, Enough, Names}
+use Rattle.model.specs.Conditions.{TablesFit, BelowCount, Names}
+use Rattle.guarantees.specs.Runs.{State}
 use Rattle.guarantees.specs.Arrays.{Arrays}
 use Rattle.guarantees.specs.Rules.{tableEntry}
 use Rattle.guarantees.specs.Points.{Handed, Lent, opens, holds, begin, Reopens}
-use Rattle.model.proofs.Parts.{part-part, patched-length}
+use Rattle.model.proofs.Parts.{part-part}
 use Rattle.model.proofs.Bounds.{b-bounds}
 use Rattle.model.proofs.Requests.{asked-slice}
 use Rattle.model.proofs.Tests.{below}
-use Rattle.guarantees.proofs.Places.{Apart, slice-first}
-use Rattle.guarantees.proofs.SoundTables.{sound-fits}
-use Rattle.guarantees.proofs.Blocks.{deciphered-same}
-use Rattle.guarantees.proofs.Cases.{Stands, close-cases}
-use Rattle.guarantees.proofs.MapBlocks.{mapPatches-elsewhere, storedEntry-back}
 use Rattle.guarantees.proofs.Tables.{load-served}
 use Rattle.guarantees.proofs.Opened.{firstCell-same, chain-same, openRefusal-taken, Served, openedBy, served-is, served-low}
 use Rattle.guarantees.proofs.Opened.{served-taken, served-small}
 use Rattle.guarantees.proofs.Point2.{Open, Kept}
 
--- ---- a close of the session that the opening sv gave
+-- ---- a device that a session of the opening sv left, with what was held then
 
 module _ (s : List ℕ) (x : Handed) (l : Lent) (k : ℕ) (sv : Served s x l k) (perm : List ℕ) (at : ℕ) (l′ : Lent)
-    (device maps owners tape : List ℕ) (position start : ℕ) (arrays : Arrays) where
+    (device maps owners : List ℕ) (position start : ℕ) (arrays : Arrays) where
   abbrev g : Geometry
   g = x .geometry
 
@@ -48,11 +41,7 @@ module _ (s : List ℕ) (x : Handed) (l : Lent) (k : ℕ) (sv : Served s x l k) 
   abbrev y : Handed
   y = record { geometry = g; key = x .key; perm = perm; position = at }
 
-  abbrev s′ : List ℕ
-  s′ = patched (mapPatches h tape (k + 1)) device
-
-  module _ (op : Open (begin s x l) arrays (record { device = device; held = h }))
-      (enough : Enough (length tape) position (closeNeed (openedBy s x l k sv .session))) where
+  module _ (op : Open (begin s x l) arrays (record { device = device; held = h })) where
     ok : Allowed g
     ok = op .stands .usable .allowed
 
@@ -62,48 +51,31 @@ module _ (s : List ℕ) (x : Handed) (l : Lent) (k : ℕ) (sv : Served s x l k) 
     wide : 1024 ≤ g .b
     wide = b-bounds g ok .0
 
-    elsewhere : (a w : ℕ) → ((v : ℕ) → v < k + 1 → Apart a w (mapStart g v) (g .b * mapBlocks g)) → part a w s′ ≡ part a w device
-    elsewhere = mapPatches-elsewhere h tape ok (k + 1) enough device (op .stands .long) low (k + 1) (omega arith)
-
-    -- The maps end before the slices.
-    slices-stay : (a w : ℕ) → sliceStart g 0 ≤ a → part a w s′ ≡ part a w device
+    cells-stay : (i : ℕ) → i ≤ k → cellOf s i ≡ cellOf device i
     unfolding mapStart sliceStart headerBlocks
-    slices-stay a w lo =
-        elsewhere a w (λ v hv. let v<15 : v < 15 = omega (arith, low) in
-        inr (omega (arith, mul-le-mul-left (g .b) (mul-le-mul-right (1 + mapBlocks g) v<15))))
-
-    cells-stay : (i : ℕ) → i ≤ k → cellOf s i ≡ cellOf s′ i
-    unfolding mapStart sliceStart headerBlocks
-    cells-stay i hi =
-        sym (op .header (cellStart i) 60 (omega (arith, wide, low))) ∙ sym (elsewhere (cellStart i) 60 (λ v hv. inl (omega (arith, wide, low))))
+    cells-stay i hi = sym (op .header (cellStart i) 60 (omega (arith, wide, low)) (λ v. inl (omega (arith, wide, low))))
 
     -- A part of a header's first block.
-    header-stays : (i : ℕ) → i ≤ k → (a n : ℕ) → a + n ≤ 1024 → part a n (headerOf g s i) ≡ part a n (headerOf g s′ i)
+    header-stays : (i : ℕ) → i ≤ k → (a n : ℕ) → a + n ≤ 1024 → part a n (headerOf g s i) ≡ part a n (headerOf g device i)
     unfolding mapStart sliceStart headerBlocks
     header-stays i hi a n f =
         let i<15 : i < 15 = omega (arith, low) in
         let size = g .b * (1 + mapBlocks g) in
         let at = headerStart g i + a in
         part-part s (headerStart g i) size a n (omega (arith, wide))
-        ∙ sym (op .header at n (omega (arith, wide, mul-le-mul-left (g .b) (mul-le-mul-right (1 + mapBlocks g) i<15))))
-        ∙ sym (elsewhere at n (λ v hv.
-        ⊎-elim (λ v<i. inr (omega (arith, mul-le-mul-left (g .b) (mul-le-mul-right (1 + mapBlocks g) v<i))))
+        ∙ sym (op .header at n (omega (arith, wide, mul-le-mul-left (g .b) (mul-le-mul-right (1 + mapBlocks g) i<15)))
+        (λ v. ⊎-elim (λ v<i. inr (omega (arith, mul-le-mul-left (g .b) (mul-le-mul-right (1 + mapBlocks g) v<i))))
         (λ i≤v. inl (omega (arith, wide, mul-le-mul-left (g .b) (mul-le-mul-right (1 + mapBlocks g) i≤v)))) (below v i)))
-        ∙ sym (part-part s′ (headerStart g i) size a n (omega (arith, wide)))
+        ∙ sym (part-part device (headerStart g i) size a n (omega (arith, wide)))
 
-    headers-stay : (i : ℕ) → i ≤ k → (vmk : List ℕ) → openHeader vmk i (headerOf g s i) ≡ openHeader vmk i (headerOf g s′ i)
+    headers-stay : (i : ℕ) → i ≤ k → (vmk : List ℕ) → openHeader vmk i (headerOf g s i) ≡ openHeader vmk i (headerOf g device i)
     headers-stay i hi vmk =
         ap₂ (λ (iv text : List ℕ). gcmOpen vmk iv ((16 + i) ∷ []) text (part 84 16 (headerOf g s i)))
         (header-stays i hi 0 12 (omega arith)) (header-stays i hi 12 72 (omega arith))
-        ∙ ap (gcmOpen vmk (part 0 12 (headerOf g s′ i)) ((16 + i) ∷ []) (part 12 72 (headerOf g s′ i))) (header-stays i hi 84 16 (omega arith))
-
-    -- The stored entries are those held.
-    stored : (i σ : ℕ) → i ≤ k → σ < g .p → storedEntry g (keyOf (h .session) i) (headerOf g s′ i) σ ≡ tableEntry h i σ
-    stored i σ hi hσ =
-        storedEntry-back h tape ok (k + 1) enough device (op .stands .long) low i σ (omega arith) hσ (sound-fits (op .sound) i σ hi hσ)
+        ∙ ap (gcmOpen vmk (part 0 12 (headerOf g device i)) ((16 + i) ∷ []) (part 12 72 (headerOf g device i))) (header-stays i hi 84 16 (omega arith))
 
     abbrev entries : ℕ → ℕ
-    entries = mapEntries g (headerOf g s′) (allKeys (sv .keys) k)
+    entries = mapEntries g (headerOf g device) (allKeys (sv .keys) k)
 
     row : (m : ℕ) → m < (k + 1) * g .p → m / g .p ≤ k
     row m hm = let r : m / g .p < k + 1 = div-lt-iff-lt-mul (ok .slices-least) .1 hm in omega arith
@@ -112,14 +84,14 @@ module _ (s : List ℕ) (x : Handed) (l : Lent) (k : ℕ) (sv : Served s x l k) 
     column m = mod-lt m (ok .slices-least)
 
     entries-are : (m : ℕ) → m < (k + 1) * g .p → entries m ≡ tableEntry h (m / g .p) (m % g .p)
-    entries-are m hm = stored (m / g .p) (m % g .p) (row m hm) (column m)
+    entries-are m hm = op .on-device (m / g .p) (m % g .p) (row m hm) (column m)
 
-    reloaded : (m : List ℕ) × (o : List ℕ) × (loadMaps g (headerOf g s′) (allKeys (sv .keys) k) (allCounts (sv .counts) k) k ≡ Tables m o)
+    reloaded : (m : List ℕ) × (o : List ℕ) × (loadMaps g (headerOf g device) (allKeys (sv .keys) k) (allCounts (sv .counts) k) k ≡ Tables m o)
     reloaded =
         load-served (g .p) (allCounts (sv .counts) k) entries ((k + 1) * g .p) (served-small s x l k sv) (mul-le-mul-right (g .p) low)
         (λ m hm. ⊎-elim inl (λ less. inr (less .0, less .1, λ n hn e. apart m hm (less .0) n hn e)) (whole m hm))
       where
-        whole : (m : ℕ) → m < (k + 1) * g .p → EntryFitsAt (g .p) (allCounts (sv .counts) k) m (entries m)
+        whole : (m : ℕ) → m < (k + 1) * g .p → (entries m ≡ unmapped) ⊎ ((entries m < g .p) × BelowCount (g .p) (allCounts (sv .counts) k) m)
         whole m hm = rw (entries-are m hm) (op .sound .whole (m / g .p) (m % g .p) (row m hm) (column m))
 
         apart : (m : ℕ) → m < (k + 1) * g .p → entries m < g .p → (n : ℕ) → n < m → entries n ≡ entries m → ⊥
@@ -132,7 +104,7 @@ module _ (s : List ℕ) (x : Handed) (l : Lent) (k : ℕ) (sv : Served s x l k) 
             omega arith
 
     module _ (names : Names (g .p) perm) (fit : TablesFit g (length (l′ .maps)) (length (l′ .owners))) where
-      served-again : Served s′ y l′ k
+      served-again : Served device y l′ k
       served-again =
           record {
             vmk = sv .vmk;
@@ -141,63 +113,44 @@ module _ (s : List ℕ) (x : Handed) (l : Lent) (k : ℕ) (sv : Served s x l k) 
             maps = reloaded .0;
             owners = reloaded .1;
             accepted =
-                openRefusal-taken s′ y l′ (record {
+                openRefusal-taken device y l′ (record {
                   good = ok;
-                  long = patched-length (mapPatches h tape (k + 1)) device ∙ op .stands .long;
+                  long = op .stands .long;
                   keyed = served-taken s x l k sv .keyed;
                   tables = fit;
                   names = names;
                 });
-            lowest = firstCell-same (x .key) (cellOf s) k (sv .vmk) (cellOf s′) cells-stay 15 0 (sv .lowest) .1;
-            headers = sym (chain-same g (headerOf g s) (headerOf g s′) k (sv .vmk) [] [] headers-stay) ∙ sv .headers;
+            lowest = firstCell-same (x .key) (cellOf s) k (sv .vmk) (cellOf device) cells-stay 15 0 (sv .lowest) .1;
+            headers = sym (chain-same g (headerOf g s) (headerOf g device) k (sv .vmk) [] [] headers-stay) ∙ sv .headers;
             tables = reloaded .2;
           }
 
-      close-reopens : Reopens s′ y l′ k (allCounts (sv .counts) k) arrays
-      unfolding ivStart blockStart served-again
-      close-reopens =
+      reopens : Reopens device y l′ k (allCounts (sv .counts) k) arrays
+      unfolding served-again
+      reopens =
           record {
             served = ap (λ (o : OpenOutcome). o .answer) is;
             counted = ap (λ (o : OpenOutcome). o .session .counts) is;
             same = λ i a hi ha.
-                let σ = sliceOf g a in
-                let j = offsetOf g a in
-                let ψ = tableEntry h i σ in
-                ap (λ (o : OpenOutcome). deciphered g (keyOf (o .session) i) (storedEntry g (keyOf (o .session) i) (headerOf g s′ i) σ) j s′) is
-                ∙ ap (λ (φ : ℕ). deciphered g (keyOf (h .session) i) φ j s′) (stored i σ hi (omega (arith, asked-slice (op .stands) hi ha)))
-                ∙ deciphered-same g (keyOf (h .session) i) ψ j s′ device
-                (λ ψ<p. (
-                  slices-stay (ivStart g ψ j) 16 (omega (arith, slice-first g ψ)),
-                  slices-stay (blockStart g ψ j) (g .b) (omega (arith, slice-first g ψ)),
-                ))
+                ap (λ (o : OpenOutcome).
+                deciphered g (keyOf (o .session) i) (storedEntry g (keyOf (o .session) i) (headerOf g device i) (sliceOf g a)) (offsetOf g a) device) is
+                ∙ ap (λ (φ : ℕ). deciphered g (keyOf (h .session) i) φ (offsetOf g a) device)
+                (op .on-device i (sliceOf g a) hi (omega (arith, asked-slice (op .stands) hi ha)))
                 ∙ sym (op .holds i a hi ha);
           }
         where
-          is : opens s′ y l′ ≡ openedBy s′ y l′ k served-again
-          is = served-is s′ y l′ k served-again
+          is : opens device y l′ ≡ openedBy device y l′ k served-again
+          is = served-is device y l′ k served-again
 
--- ---- a served close
-
-record Done (n : ℕ) (h : Held) (tape : List ℕ) (o : Outcome CloseResult) : Type 0 where
-  stands : Stands n h
-  enough : Enough (length tape) (h .position) (closeNeed (h .session))
-  is : o ≡ closed h tape
-
-close-done : (n : ℕ) (h : Held) (tape : List ℕ) → closeModel n h tape .answer ≡ CloseResult.Closed → Done n h tape (closeModel n h tape)
-close-done n h tape =
-    close-cases n h tape (λ (o : Outcome CloseResult). o .answer ≡ CloseResult.Closed → Done n h tape o)
-    (λ r e q. let z : _≡_ {A = ℕ} 0 1 = cc in absurd (omega arith)) (λ st enough q. record { stands = st; enough = enough; is = refl })
+-- ---- after any list of calls
 
 pub run-again : (s : List ℕ) (x : Handed) (l : Lent) (k : ℕ) → Served s x l k → (u : State) (arrays : Arrays) → Kept (begin s x l) arrays u
-    → (tape : List ℕ) → outcome u (Closing tape) .answer ≡ Closes tape CloseResult.Closed
     → (y : Handed) (l′ : Lent) → y .geometry ≡ x .geometry → y .key ≡ x .key
     → Names (y .geometry .p) (y .perm) → TablesFit (y .geometry) (length (l′ .maps)) (length (l′ .owners))
-    → Reopens (next u (Closing tape) .device) y l′ k (holds s x l .session .counts) arrays
-unfolding outcome
-run-again s x l k sv u arrays kept tape e y l′ eg ek names fit =
-    subst (λ (z : Handed). Reopens (next u (Closing tape) .device) z l′ k (holds s x l .session .counts) arrays) (sym same)
-    (subst (λ (o : Outcome CloseResult). Reopens (patched (o .patches) (u .device)) y₀ l′ k (holds s x l .session .counts) arrays) (sym (done .is))
-    (subst Then (sym session) literal op (done .enough)))
+    → Reopens (u .device) y l′ k (holds s x l .session .counts) arrays
+run-again s x l k sv u arrays kept y l′ eg ek names fit =
+    subst (λ (z : Handed). Reopens (u .device) z l′ k (holds s x l .session .counts) arrays) (sym same)
+    (subst Then (sym session) literal (kept .sound))
   where
     y₀ : Handed
     y₀ = record { geometry = x .geometry; key = x .key; perm = y .perm; position = y .position }
@@ -205,27 +158,19 @@ run-again s x l k sv u arrays kept tape e y l′ eg ek names fit =
     same : y ≡ y₀
     same = ap₂ (λ (g : Geometry) (key : List ℕ). record { geometry = g; key = key; perm = y .perm; position = y .position }) eg ek
 
-    done : Done (length (u .device)) (u .held) tape (closeModel (length (u .device)) (u .held) tape)
-    done = close-done (length (u .device)) (u .held) tape (cc)
-
-    op : Open (begin s x l) arrays u
-    op = kept (done .stands .usable .opened)
-
-    heldWith : Session → Held
-    heldWith c = held (u .held .maps) (u .held .owners) (u .held .position) c
+    h₀ : Held
+    h₀ = kept .last
 
     Then : Session → Type 0
-    Then c = Open (begin s x l) arrays (record { device = u .device; held = heldWith c })
-        → Enough (length tape) (u .held .position) (closeNeed c)
-        → Reopens (patched (mapPatches (heldWith c) tape (c .k + 1)) (u .device)) y₀ l′ k (holds s x l .session .counts) arrays
+    Then c = Open (begin s x l) arrays (record { device = u .device; held = held (h₀ .maps) (h₀ .owners) (h₀ .position) c })
+        → Reopens (u .device) y₀ l′ k (holds s x l .session .counts) arrays
 
-    session : u .held .session ≡ startingAt (u .held .session .start) (openedBy s x l k sv .session)
-    session = op .session ∙ ap (λ (o : OpenOutcome). startingAt (u .held .session .start) (o .session)) (served-is s x l k sv)
+    session : h₀ .session ≡ startingAt (h₀ .session .start) (openedBy s x l k sv .session)
+    session = kept .sound .session ∙ ap (λ (o : OpenOutcome). startingAt (h₀ .session .start) (o .session)) (served-is s x l k sv)
 
-    literal : Then (startingAt (u .held .session .start) (openedBy s x l k sv .session))
-    literal o enough =
+    literal : Then (startingAt (h₀ .session .start) (openedBy s x l k sv .session))
+    literal op =
         rw (served-is s x l k sv)
-        (close-reopens s x l k sv (y .perm) (y .position) l′ (u .device) (u .held .maps) (u .held .owners) tape (u .held .position)
-        (u .held .session .start) arrays o enough
+        (reopens s x l k sv (y .perm) (y .position) l′ (u .device) (h₀ .maps) (h₀ .owners) (h₀ .position) (h₀ .session .start) arrays op
         (subst (λ (g : Geometry). Names (g .p) (y .perm)) eg names)
         (subst (λ (g : Geometry). TablesFit g (length (l′ .maps)) (length (l′ .owners))) eg fit))

@@ -2,21 +2,22 @@
 use Prim.Native.Nat.{ℕ, suc, _+_, _*_, _≤_, _<_}
 use mathlib.Core.Path.{_≡_, refl}
 use mathlib.Core.Logic.{inl, inr, ⊎-elim}
-use mathlib.Core.List.{List, _++_}
+use mathlib.Core.List.{List, _∷_, _++_}
 use native.Mathlib.Nat.{mul-le-mul-right}
 use native.Mathlib.Omega.{arith}
 use lib.ListN.{length}
 use Rattle.model.specs.declared.Geometry.{Geometry}
 use Rattle.model.specs.declared.Session.{Session}
 use Rattle.model.specs.Geometry.{Allowed, deviceLength, cellOf, headerOf}
-use Rattle.model.specs.Session.{Held, Outcome, geometry, entryOf, unmapped, noKeys}
+use Rattle.model.specs.Session.{Held, Outcome, geometry, sliceOf, entryOf, unmapped, standing, noKeys}
 use Rattle.model.specs.Opening.{Cell, Chain, mapEntries, Loaded, openRefusal, OpenOutcome, allKeys, allCounts}
 use Rattle.model.specs.Opening.{withTables, withKeys, withCell, openModel}
 use Rattle.model.specs.Read.{ReadResult, deciphered, readRefusal, readModel, findModel}
 use Rattle.model.specs.Write.{WriteResult, writeModel}
 use Rattle.model.specs.Release.{ReleaseResult, releaseRefusal, releaseModel}
-use Rattle.model.specs.Close.{CloseResult, closeRefusal, closeModel}
-use Rattle.guarantees.specs.Rules.{Rule, First, SearchEnds, heldEntry, openRules}
+use Rattle.model.specs.Close.{CloseResult, closeModel}
+use Rattle.model.specs.Conditions.{Enough}
+use Rattle.guarantees.specs.Rules.{Rule, rule, First, SearchEnds, heldEntry, HeldFits, openRules}
 use Rattle.guarantees.specs.Openings.{Lowest, AllUnlocked, OpenAnswered, handed-wrong, no-cell, header-tag}
 use Rattle.guarantees.specs.Openings.{header-geometry, bad-entry, slice-twice}
 use Rattle.guarantees.specs.Points.{ReadAnswered, FindAnswered, WriteAnswered, ReleaseAnswered, CloseAnswered}
@@ -26,7 +27,7 @@ use Rattle.guarantees.proofs.Reflects.{ltb-reflects, choose-reflects}
 use Rattle.guarantees.proofs.Chains.{Leads, here, later, none, leads-first, leads-append, none-leads}
 use Rattle.guarantees.proofs.Orders.{earlyRules, open-leads, read-leads, write-leads, release-leads, close-leads}
 use Rattle.guarantees.proofs.Search.{search-ends, free-not-bad, free-not-full, full-not-bad}
-use Rattle.guarantees.proofs.Cases.{unless-cases, Writable, writable-passes, write-cases}
+use Rattle.guarantees.proofs.Cases.{unless-cases, Writable, writable-passes, Claimable, write-cases}
 use Rattle.guarantees.proofs.Unlocks.{ChainEnds, whole, wrong-tag, misfit, chain-ends, allKeys-unlocked}
 use Rattle.guarantees.proofs.Tables.{LoadEnds, loaded, bad, twice, holds-sound, load-ends}
 use Rattle.guarantees.proofs.Opened.{openRefusal-none}
@@ -62,21 +63,22 @@ find-answered device maps owners s i a =
     (FindAnswered.mapped (leads-first (rw e at q)))
     (λ out. FindAnswered.nowhere (leads-first (rw e at q)) (entry-unmapped device maps owners s i a (s .geometry .b) e out)))
 
-pub release-answered : (device : ℕ) (h : Held) (i σ : ℕ) (perm : List ℕ)
-    → ReleaseAnswered device h i σ perm (releaseModel device h i σ perm .answer)
+pub release-answered : (device : ℕ) (h : Held) (i σ : ℕ) (perm tape : List ℕ)
+    → ReleaseAnswered device h i σ perm tape (releaseModel device h i σ perm tape .answer)
 unfolding releaseModel
-release-answered device h i σ perm =
-    let q = release-leads device h i σ perm in
-    unless-cases (λ (o : Outcome ReleaseResult). ReleaseAnswered device h i σ perm (o .answer))
-    (releaseRefusal device (h .maps) (h .owners) (h .session) i σ perm) _ _
+release-answered device h i σ perm tape =
+    let q = release-leads device h i σ perm (length tape) in
+    unless-cases (λ (o : Outcome ReleaseResult). ReleaseAnswered device h i σ perm tape (o .answer))
+    (releaseRefusal device h i σ perm (length tape)) _ _
     (λ r e. ReleaseAnswered.refused (suc r) (omega arith) (leads-first (rw e at q)))
     (λ e. ReleaseAnswered.served (leads-first (rw e at q)))
 
-pub close-answered : (device : ℕ) (h : Held) (tape : List ℕ) → CloseAnswered device h tape (closeModel device h tape .answer)
+pub close-answered : (device : ℕ) (h : Held) → CloseAnswered device h (closeModel device h .answer)
 unfolding closeModel
-close-answered device h tape =
-    let q = close-leads device h (length tape) in
-    unless-cases (λ (o : Outcome CloseResult). CloseAnswered device h tape (o .answer)) (closeRefusal device h (length tape)) _ _
+close-answered device h =
+    let q = close-leads device h in
+    unless-cases (λ (o : Outcome CloseResult). CloseAnswered device h (o .answer))
+    (standing device (length (h .maps)) (length (h .owners)) (h .session) 0) _ _
     (λ r e. CloseAnswered.refused (suc r) (omega arith) (leads-first (rw e at q)))
     (λ e. CloseAnswered.served (leads-first (rw e at q)))
 
@@ -105,14 +107,23 @@ module _ (device : ℕ) (h : Held) (i a : ℕ) (text perm tape : List ℕ) where
       (leads-first (leads-append _ (omega arith) (rw e at (write-leads device h i a (length text) (length perm))))))
       (λ w l lacking. WriteAnswered.refused (ends .0) 21 0 (omega arith) (ends .1) (late w (here (l, lacking) refl refl)))
       (λ w l enough. WriteAnswered.rewritten (ends .0) (ends .1)
-      (late w (later (λ x. x .1 enough) (later (slice-not-mark w l) (later (slice-not-mark w l) (later (slice-not-mark w l) none))))) l)
-      (λ w u n f. WriteAnswered.refused n 5 _ (omega arith) (inr (inl f)) (late w (later (mark-not-slice w u) (here (u, f) refl refl))))
-      (λ w u f. WriteAnswered.refused 0 22 _ (omega arith) (inr (inr f))
-      (late w (later (mark-not-slice w u) (later (λ x. full-not-bad h perm 0 f (x .1)) (here (u, f) refl refl)))))
-      (λ w u n f lacking. WriteAnswered.refused n 21 _ (omega arith) (inl f) (late w (later (mark-not-slice w u)
-      (later (λ x. free-not-bad h perm n f (x .1)) (later (λ x. free-not-full h perm n f (x .1)) (here (u, lacking) refl refl))))))
-      (λ w u ψ n f q enough. rw (← q) (WriteAnswered.claimed n f (late w (later (mark-not-slice w u)
-      (later (λ x. free-not-bad h perm n f (x .1)) (later (λ x. free-not-full h perm n f (x .1)) (later (λ x. x .1 enough) none))))) u))
+      (late w (later (λ x. x .1 enough)
+      (later (slice-not-mark w l) (later (slice-not-mark w l) (later (slice-not-mark w l) (later (slice-not-mark w l) none)))))) l)
+      (λ w u spoilt. WriteAnswered.refused (ends .0) 9 0 (omega arith) (ends .1) (late w (later (mark-not-slice w u) (here (u, spoilt) refl refl))))
+      (λ c n f. WriteAnswered.refused n 5 _ (omega arith) (inr (inl f)) (claims c (here (c .mark, f) refl refl)))
+      (λ c f. WriteAnswered.refused 0 22 _ (omega arith) (inr (inr f))
+      (claims c (later (λ x. full-not-bad h perm 0 f (x .1)) (here (c .mark, f) refl refl))))
+      (λ c n f lacking. WriteAnswered.refused n 21 _ (omega arith) (inl f)
+      (claims c (later (λ x. free-not-bad h perm n f (x .1)) (later (λ x. free-not-full h perm n f (x .1)) (here (c .mark, lacking) refl refl)))))
+      (λ c ψ n f q enough. rw (← q) (WriteAnswered.claimed n f (claims c
+      (later (λ x. free-not-bad h perm n f (x .1)) (later (λ x. free-not-full h perm n f (x .1)) (later (λ x. x .1 enough) none)))) (c .mark)))
+    where
+      -- Neither the rule of a rewrite nor that of the map block holds.
+      claims : Claimable device h i a text perm tape → {rs : List Rule} {n c : ℕ} → Leads rs n c
+          → First (earlyRules device h i a (length text) (length perm)
+          ++ (rule 21 ((heldEntry h i a < geometry h .p) × (Enough (length tape) (h .position) 16 → ⊥))
+          ∷ rule 9 ((heldEntry h i a ≡ unmapped) × (HeldFits h i (sliceOf (geometry h) a) → ⊥)) ∷ rs)) n c
+      claims c q = late (c .writable) (later (mark-not-slice (c .writable) (c .mark)) (later (λ x. x .1 (c .block)) q))
 
 -- ---- opening
 

@@ -10,19 +10,19 @@ use Rattle.model.specs.declared.Session.{Session}
 use Rattle.model.specs.declared.Search.{Search}
 use Rattle.model.specs.declared.Search.the-variants.{Free, Bad, Full}
 use Rattle.model.specs.Permutation.{placeOf}
-use Rattle.model.specs.Session.{Held, Outcome, geometry, countOf, startingAt, sliceOf, offsetOf, unmapped, unless, idle}
+use Rattle.model.specs.Session.{Held, Outcome, geometry, countOf, startingAt, sliceOf, offsetOf, unmapped, standing, unless, idle}
 use Rattle.model.specs.Read.{readRefusal}
 use Rattle.model.specs.Search.{firstFree}
-use Rattle.model.specs.Write.{probesTo, WriteResult, rewritten, claimed, full, claimOutcome, writeRefusal, writeModel}
+use Rattle.model.specs.Write.{probesTo, WriteResult, claimNeed, rewritten, claimed, full, claimOutcome, writeRefusal, writeModel}
 use Rattle.model.specs.Release.{releaseRefusal, ReleaseResult, released, releaseModel}
-use Rattle.model.specs.Close.{closeNeed, closeRefusal, CloseResult, closed, closeModel}
+use Rattle.model.specs.Close.{CloseResult, closed, closeModel}
 use Rattle.model.specs.Geometry.{deviceLength}
 use Rattle.model.specs.Conditions.{Usable, TablesFit, Enough, Names, sliceAt}
 use Rattle.model.proofs.Requests as requests
-use Rattle.guarantees.specs.Rules.{heldEntry, tableEntry, askedRules, FreeAt, BadAt, NoneFree}
+use Rattle.guarantees.specs.Rules.{heldEntry, tableEntry, askedRules, FreeAt, BadAt, NoneFree, HeldFits}
 use Rattle.guarantees.proofs.Reflects.{ltb-reflects, choose-reflects, choose-refutes}
-use Rattle.guarantees.proofs.Chains.{None, other, leads-barred}
-use Rattle.guarantees.proofs.Orders.{short-refutes, missing-names, earlyRules, write-leads}
+use Rattle.guarantees.proofs.Chains.{None, others, leads-barred}
+use Rattle.guarantees.proofs.Orders.{short-refutes, missing-names, badInBlock-refutes, earlyRules, write-leads}
 use Rattle.model.proofs.Permutations.{Placed, names-place}
 use Rattle.model.proofs.Searches.{Finds, firstFree-finds}
 
@@ -100,74 +100,84 @@ module _ (n : ℕ) (h : Held) (i a : ℕ) (text perm tape : List ℕ) where
   abbrev probes : ℕ → ℕ
   probes place = probesTo (h .session) place
 
+  -- A write that comes to the search of a claim: its entry is the mark, and every entry of its map block fits.
+  pub record Claimable : Type 0 where
+    pub writable : Writable n h i a text perm
+    pub mark : ψ₀ ≡ unmapped
+    pub block : HeldFits h i σ
+
   -- Each case with all that is known of it.
   pub write-cases : (P : Outcome WriteResult → Type 0)
       → ((r : ℕ) → writeRefusalOf n h i a (length text) (length perm) ≡ suc r → P (refused (suc r) 0))
       → (Writable n h i a text perm → ψ₀ < geometry h .p → (Left 16 → ⊥) → P (refused 21 0))
       → (Writable n h i a text perm → ψ₀ < geometry h .p → Left 16 → P (rewritten h i ψ₀ j text tape))
-      → (Writable n h i a text perm → ψ₀ ≡ unmapped → (place : ℕ) → BadAt h perm place → P (refused 5 (probes place)))
-      → (Writable n h i a text perm → ψ₀ ≡ unmapped → NoneFree h perm → P (full h))
-      → (Writable n h i a text perm → ψ₀ ≡ unmapped → (place : ℕ) → FreeAt h perm place → (Left (geometry h .b) → ⊥) → P (refused 21 (probes place)))
-      → (Writable n h i a text perm → ψ₀ ≡ unmapped → (ψ place : ℕ) → FreeAt h perm place → sliceAt perm place ≡ ψ → Left (geometry h .b)
+      → (Writable n h i a text perm → ψ₀ ≡ unmapped → (HeldFits h i σ → ⊥) → P (refused 9 0))
+      → (Claimable → (place : ℕ) → BadAt h perm place → P (refused 5 (probes place)))
+      → (Claimable → NoneFree h perm → P (full h))
+      → (Claimable → (place : ℕ) → FreeAt h perm place → (Left (claimNeed (geometry h)) → ⊥) → P (refused 21 (probes place)))
+      → (Claimable → (ψ place : ℕ) → FreeAt h perm place → sliceAt perm place ≡ ψ → Left (claimNeed (geometry h))
       → P (claimed h i σ j ψ place text tape))
       → P (writeModel n h i a text perm tape)
   unfolding writeModel
-  write-cases P unfit re-short re bad none cl-short cl =
+  write-cases P unfit re-short re spoilt bad none cl-short cl =
       unless-cases P _ _ _ unfit
       (λ e. let w = requests.writeRefusal-none n (h .maps) (h .owners) (h .session) i a (length text) (length perm) e in
       choose-reflects P _ _ (ltb-reflects ψ₀ (geometry h .p))
       (λ l. choose-refutes P _ _ (short-refutes (length tape) (h .position) 16) (re-short w l) (re w l))
-      (λ out. claims w (⊎-elim (λ u. u) (λ l. absurd (out l)) (w .asked .mapped)) search-of
-      (firstFree-finds (h .owners) (geometry h .p) perm (h .session .start))))
+      (λ out. let u = ⊎-elim (λ u. u) (λ l. absurd (out l)) (w .asked .mapped) in
+      choose-refutes P _ _ (badInBlock-refutes (h .maps) (h .session) i σ (w .stands .usable .allowed)) (spoilt w u)
+      (λ fits. claims (record { writable = w; mark = u; block = fits }) search-of
+      (firstFree-finds (h .owners) (geometry h .p) perm (h .session .start)))))
     where
       search-of : Search
       search-of = firstFree (h .owners) (geometry h .p) (h .session .start) perm
 
-      claims : Writable n h i a text perm → ψ₀ ≡ unmapped → (s : Search) → Finds (h .owners) (geometry h .p) perm (h .session .start) s
-          → P (claimOutcome h i σ j text tape s)
-      claims w u (Bad place) f = bad w u place f
-      claims w u Full f = none w u f
-      claims w u (Free ψ place) f =
-          choose-refutes P _ _ (short-refutes (length tape) (h .position) (geometry h .b)) (cl-short w u place (f .0)) (cl w u ψ place (f .0) (f .1))
+      claims : Claimable → (s : Search) → Finds (h .owners) (geometry h .p) perm (h .session .start) s → P (claimOutcome h i σ j text tape s)
+      claims c (Bad place) f = bad c place f
+      claims c Full f = none c f
+      claims c (Free ψ place) f =
+          choose-refutes P _ _ (short-refutes (length tape) (h .position) (claimNeed (geometry h))) (cl-short c place (f .0))
+          (cl c ψ place (f .0) (f .1))
 
   -- 22 is not among the refusals before the search.
   pub early-not-22 : writeRefusalOf n h i a (length text) (length perm) ≡ 22 → ⊥
   early-not-22 =
-      leads-barred (write-leads n h i a (length text) (length perm))
-      (other (omega arith), (other (omega arith), (other (omega arith), (other (omega arith), (other (omega arith), (other (omega arith), (other (omega arith), (other (omega arith), tt)))))))) (omega arith)
+      leads-barred (write-leads n h i a (length text) (length perm)) (others 22 (earlyRules n h i a (length text) (length perm)) refl) (omega arith)
 
   -- The same where only what is stored and left matters: every refusal but 22 leaves what is held.
   pub write-stores : (P : Outcome WriteResult → Type 0)
       → ((number count : ℕ) → (number ≡ 22 → ⊥) → P (refused number count))
       → (Writable n h i a text perm → P (full h))
       → (Writable n h i a text perm → ψ₀ < geometry h .p → Left 16 → P (rewritten h i ψ₀ j text tape))
-      → (Writable n h i a text perm → ψ₀ ≡ unmapped → (ψ place : ℕ) → FreeAt h perm place → ψ < geometry h .p → getD (h .owners) ψ 0 ≡ 0
-      → Left (geometry h .b) → P (claimed h i σ j ψ place text tape))
+      → (Claimable → (ψ place : ℕ) → FreeAt h perm place → ψ < geometry h .p → getD (h .owners) ψ 0 ≡ 0
+      → Left (claimNeed (geometry h)) → P (claimed h i σ j ψ place text tape))
       → P (writeModel n h i a text perm tape)
   write-stores P none filled re cl =
       write-cases P (λ r e. none (suc r) 0 (λ q. early-not-22 (e ∙ q))) (λ w l s. none 21 0 (omega arith)) re
-      (λ w u place f. none 5 (probes place) (omega arith)) (λ w u f. filled w) (λ w u place f s. none 21 (probes place) (omega arith))
-      (λ w u ψ place f q enough. cl w u ψ place f (rw q at (f .slice)) (rw q at (f .free)) enough)
+      (λ w u f. none 9 0 (omega arith)) (λ c place f. none 5 (probes place) (omega arith)) (λ c f. filled (c .writable))
+      (λ c place f s. none 21 (probes place) (omega arith))
+      (λ c ψ place f q enough. cl c ψ place f (rw q at (f .slice)) (rw q at (f .free)) enough)
 
 -- ---- a release
 
 -- One that is not refused.
-pub record Releasable (n : ℕ) (h : Held) (i σ : ℕ) (perm : List ℕ) : Type 0 where
+pub record Releasable (n : ℕ) (h : Held) (i σ : ℕ) (perm tape : List ℕ) : Type 0 where
   pub stands : Stands n h
   pub names : Names (geometry h .p) perm
   pub volume : i ≤ h .session .k
   pub slice : σ < countOf (h .session) i
   pub mapped : tableEntry h i σ < geometry h .p
   pub place : Placed (tableEntry h i σ) perm (placeOf (tableEntry h i σ) perm)
+  pub enough : Enough (length tape) (h .position) 16
 
-pub release-cases : (n : ℕ) (h : Held) (i σ : ℕ) (perm : List ℕ) (P : Outcome ReleaseResult → Type 0)
-    → ((r : ℕ) → releaseRefusal n (h .maps) (h .owners) (h .session) i σ perm ≡ suc r → P (idle h (ReleaseResult.Refused (suc r))))
-    → (Releasable n h i σ perm → P (released h i σ (tableEntry h i σ) (placeOf (tableEntry h i σ) perm)))
-    → P (releaseModel n h i σ perm)
+pub release-cases : (n : ℕ) (h : Held) (i σ : ℕ) (perm tape : List ℕ) (P : Outcome ReleaseResult → Type 0)
+    → ((r : ℕ) → releaseRefusal n h i σ perm (length tape) ≡ suc r → P (idle h (ReleaseResult.Refused (suc r))))
+    → (Releasable n h i σ perm tape → P (released h i σ (tableEntry h i σ) (placeOf (tableEntry h i σ) perm) tape))
+    → P (releaseModel n h i σ perm tape)
 unfolding releaseModel
-release-cases n h i σ perm P refused done =
+release-cases n h i σ perm tape P refused done =
     unless-cases P _ _ _ refused
-    (λ e. let q = requests.releaseRefusal-none n (h .maps) (h .owners) (h .session) i σ perm e in
+    (λ e. let q = requests.releaseRefusal-none n h i σ perm (length tape) e in
     let names = missing-names (geometry h .p) perm (q .places) (q .named) in
     done (record {
       stands = q .stands;
@@ -176,14 +186,14 @@ release-cases n h i σ perm P refused done =
       slice = q .slice;
       mapped = q .mapped;
       place = names-place (geometry h .p) perm (tableEntry h i σ) names (q .mapped);
+      enough = q .enough;
     }))
 
 -- ---- a close
 
-pub close-cases : (n : ℕ) (h : Held) (tape : List ℕ) (P : Outcome CloseResult → Type 0)
-    → ((r : ℕ) → closeRefusal n h (length tape) ≡ suc r → P (idle h (CloseResult.Refused (suc r))))
-    → (Stands n h → Enough (length tape) (h .position) (closeNeed (h .session)) → P (closed h tape))
-    → P (closeModel n h tape)
+pub close-cases : (n : ℕ) (h : Held) (P : Outcome CloseResult → Type 0)
+    → ((r : ℕ) → standing n (length (h .maps)) (length (h .owners)) (h .session) 0 ≡ suc r → P (idle h (CloseResult.Refused (suc r))))
+    → (Stands n h → P (closed h))
+    → P (closeModel n h)
 unfolding closeModel
-close-cases n h tape P refused done =
-    unless-cases P _ _ _ refused (λ e. let c = requests.closeRefusal-none n h (length tape) e in done (c .stands) (c .enough))
+close-cases n h P refused done = unless-cases P _ _ _ refused (λ e. done (requests.standing-none _ _ _ _ _ e .0))

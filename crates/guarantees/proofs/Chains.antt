@@ -5,7 +5,10 @@ use mathlib.Core.Logic.{inl, inr}
 use mathlib.Core.Bool.{Bool, true, false, _||_}
 use mathlib.Core.List.{List, [], _∷_, _++_}
 use native.Mathlib.Omega.{arith}
+use lib.Dec.{eqb}
+use borrow.Author.Tests.{eqb-false}
 use Rattle.refusals.specs.Numbers.{refuse}
+use Rattle.model.proofs.Tests.{or-false}
 use Rattle.guarantees.specs.Rules.{Rule, rule, First}
 use Rattle.guarantees.proofs.Reflects.{Reflects, holds, fails, Refutes, passes, refutes, refutes-map, or-refutes}
 
@@ -61,9 +64,17 @@ abbrev pub Barred : ℕ → List Rule → Type 0
 Barred m [] = Unit
 Barred m (r ∷ rs) = (m ≡ r .number → r .holds → ⊥) × Barred m rs
 
--- A rule with another number.
-pub other : {m n : ℕ} {A : Type 0} → (m ≡ n → ⊥) → m ≡ n → A → ⊥
-other ne e a = ne e
+-- A rule with another number, before such as are barred; and a list of such rules.
+pub skip : {m n : ℕ} {A B : Type 0} → eqb m n ≡ false → B → (m ≡ n → A → ⊥) × B
+skip {m} {n} e rest = ((λ q a. eqb-false m n e q), rest)
+
+abbrev pub numbered : ℕ → List Rule → Bool
+numbered m [] = false
+numbered m (r ∷ rs) = eqb m (r .number) || numbered m rs
+
+pub others : (m : ℕ) (rs : List Rule) → numbered m rs ≡ false → Barred m rs
+others m [] e = tt
+others m (r ∷ rs) e = let q = or-false (eqb m (r .number)) (numbered m rs) e in skip (q .0) (others m rs (q .1))
 
 -- A refusal by the rules has the number of one that holds.
 pub leads-barred : {rs : List Rule} {m n c : ℕ} → Leads rs n c → Barred m rs → (m ≡ 0 → ⊥) → n ≡ m → ⊥
@@ -106,14 +117,19 @@ unfolding refuse
 leads-refuse n (holds a) q = here a refl refl
 leads-refuse n (fails f) q = later f q
 
-pub leads-row : {t : ℕ → ℕ} {n rest : ℕ} {P : Type 0} {rs : List Rule} → Guards t n P → Leads rs rest 0
+-- The rows after one that tests P may rely on it.
+pub leads-given : {t : ℕ → ℕ} {n rest : ℕ} {P : Type 0} {rs : List Rule} → Guards t n P → (P → Leads rs rest 0)
     → Leads (rule n (P → ⊥) ∷ rs) (t rest) 0
 unfolding refuse
-leads-row {n} {rest} {P} {rs} g q = rw (g .refuses rest) (row (g .decides))
+leads-given {n} {rest} {P} {rs} g q = rw (g .refuses rest) (row (g .decides))
   where
     row : {b : Bool} → Refutes P b → Leads (rule n (P → ⊥) ∷ rs) (refuse b n rest) 0
     row (refutes f) = here f refl refl
-    row (passes p) = later (λ (f : P → ⊥). f p) q
+    row (passes p) = later (λ (f : P → ⊥). f p) (q p)
+
+pub leads-row : {t : ℕ → ℕ} {n rest : ℕ} {P : Type 0} {rs : List Rule} → Guards t n P → Leads rs rest 0
+    → Leads (rule n (P → ⊥) ∷ rs) (t rest) 0
+leads-row g q = leads-given g (λ p. q)
 
 -- ---- chains that go on past their rules
 

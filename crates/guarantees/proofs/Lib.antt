@@ -11,6 +11,7 @@ pub mod Entries
 pub mod Claims
 pub mod Releases
 pub mod MapBlocks
+pub mod OnDevice
 pub mod Making
 pub mod Shuffled
 pub mod Stored

@@ -16,7 +16,7 @@ use Rattle.model.specs.Parts.{part, joined, Patch, patched}
 use Rattle.model.specs.Geometry.{Allowed, countIn, mapBlocks, deviceLength, fourBytes, cellStart, headerStart, mapStart}
 use Rattle.model.specs.Session.{LentResult, keyIn, unless}
 use Rattle.model.specs.Opening.{noMaps}
-use Rattle.model.specs.Close.{mapBlock}
+use Rattle.model.specs.Maps.{mapBlock}
 use Rattle.model.specs.Format.{headerIvAt, mapIvAt, formatNeed, sealed, madeCell, madeBelow, madeText, madeHeader, madeMap}
 use Rattle.model.specs.Format.{cellPatches, headerPatches, formatted, lowerRefusal, formatModel}
 use Rattle.model.specs.Format as format

@@ -1,30 +1,33 @@
--- What a close stores in the map blocks is what the statements say, and deciphers to the entries held. Assumes nothing.
-use Prim.Native.Nat.{ℕ, zero, suc, _+_, _*_, _/_, _%_, _≤_, _<_}
+-- Map blocks on a device: those of a formatting each in its place, and one that a claim or a release stores, with what is read back of it.
+-- Assumes nothing.
+use Prim.Native.Nat.{ℕ, _+_, _-_, _*_, _/_, _%_, _≤_, _<_}
 use mathlib.Core.Path.{_≡_, refl, sym, ap, ap₂, _∙_}
-use mathlib.Core.List.{List, [], _∷_, _++_, List·Memᴰ·head}
-use mathlib.Core.Logic.{⊎-elim}
+use mathlib.Core.List.{List}
+use mathlib.Core.Logic.{inl, inr, ⊎-elim}
 use native.Mathlib.Omega.{arith}
-use native.Mathlib.Nat.{div-add-mod', mod-lt, mul-comm, mul-le-mul-left, mul-le-mul-right}
+use native.Mathlib.Nat.{add-zero, div-add-mod', mod-lt, mul-comm, mul-le-mul-left, mul-le-mul-right}
 use lib.ListN.{length}
 use lib.Dec.{ltb}
 use borrow.Author.Tests.{lt-ltb}
+use Rattle.ctr.specs.CounterMode.{ctr}
 use Rattle.model.specs.declared.Geometry.{Geometry}
-use Rattle.model.specs.Parts.{choose, part, joined, overlay, Patch, patched}
-use Rattle.model.specs.Geometry.{perBlock, mapBlocks, deviceLength, headerStart, headerOf, mapStart, Allowed}
-use Rattle.model.specs.Session.{Held, geometry, keyOf, entry, unmapped}
+use Rattle.model.specs.Parts.{choose, part, overlay}
+use Rattle.model.specs.Geometry.{Allowed, perBlock, mapBlocks, headerBlocks, deviceLength, numberAt, headerOf, mapStart, mapBlockStart}
+use Rattle.model.specs.Geometry.{sliceStart, ivStart, blockStart}
+use Rattle.model.specs.Session.{entry, unmapped}
 use Rattle.model.specs.Opening.{storedEntry}
-use Rattle.model.specs.Close.{mapText, mapBlock, mapBytes, mapPatches}
+use Rattle.model.specs.Read.{deciphered}
+use Rattle.model.specs.Maps.{mapText, mapBlock, mapBytes}
 use Rattle.model.specs.Conditions.{EntryFits, Enough}
-use Rattle.guarantees.specs.Runs.{Range, mapRanges}
-use Rattle.guarantees.specs.Effects.{mapStored, mapsStored}
-use Rattle.model.proofs.Parts.{part-length, part-part, joined-length, joined-ext, joined-part, patched-++}
-use Rattle.model.proofs.Bounds.{perBlock-least, mapBlock-of, headers-fit}
-use Rattle.model.proofs.MapBlocks.{mapBlock-length, mapBlock-row}
-use Rattle.model.proofs.Seals.{sealed-entry}
-use Rattle.guarantees.proofs.Patches.{rangesOf, ranges-++, InOrder, joined-inOrder, patched-whole, joined-member}
-use Rattle.guarantees.proofs.Places.{Apart, overlay-apart}
+use Rattle.model.proofs.Parts.{part-length, part-part, joined-length, joined-part, overlay-whole}
+use Rattle.model.proofs.Bounds.{b-bounds, perBlock-least, mapBlock-of, map-fits}
+use Rattle.model.proofs.MapBlocks.{mapBlock-length}
+use Rattle.model.proofs.Seals.{header-block, map-entry}
+use Rattle.model.proofs.Tests.{three}
+use Rattle.guarantees.proofs.Places.{Apart, overlay-apart, slice-first}
+use Rattle.guarantees.proofs.Blocks.{deciphered-same}
 
--- ---- one map block
+-- ---- the map blocks of a volume
 
 module _ (maps : List ℕ) (g : Geometry) (ok : Allowed g) where
   module _ (key : List ℕ) (i : ℕ) where
@@ -53,127 +56,109 @@ module _ (maps : List ℕ) (g : Geometry) (ok : Allowed g) where
           ∙ ap (λ (y : ℕ). part y (g .b) (mapBytes maps g key tape at i)) (mul-comm (g .b) t)
           ∙ joined-part (g .b) (mapBlocks g) (λ n. mapBlock maps g key i n (iv n)) each-length t l
 
--- ---- the patches of a close of K volumes
+-- ---- one map block
 
-module _ (h : Held) (tape : List ℕ) (ok : Allowed (geometry h)) (K : ℕ)
-    (enough : Enough (length tape) (h .position) (16 * mapBlocks (geometry h) * K)) where
-  abbrev g₀ : Geometry
-  g₀ = geometry h
+module _ (g : Geometry) (ok : Allowed g) where
+  abbrev c : ℕ
+  c = perBlock g
 
   abbrev m : ℕ
-  m = mapBlocks g₀
+  m = mapBlocks g
 
-  abbrev at : ℕ → ℕ
-  at i = h .position + 16 * (m * i)
-
-  abbrev bytes : ℕ → List ℕ
-  bytes i = mapBytes (h .maps) g₀ (keyOf (h .session) i) tape (at i) i
-
-  left : (i : ℕ) → i < K → Enough (length tape) (at i) (16 * m)
-  left i l = omega (arith, mul-le-mul-left m l)
-
-  bytes-length : (i : ℕ) → i < K → length (bytes i) ≡ g₀ .b * m
-  bytes-length i l = mapBytes-length (h .maps) g₀ ok (keyOf (h .session) i) i tape (at i) (left i l)
-
-  pub mapPatches-ranges : (n : ℕ) → n ≤ K → rangesOf (mapPatches h tape n) ≡ mapRanges g₀ n
-  unfolding mapPatches
-  mapPatches-ranges zero l = refl
-  mapPatches-ranges (suc n) l =
-      ranges-++ (mapPatches h tape n) _
-      ∙ ap₂ (λ (a b : List Range). a ++ b) (mapPatches-ranges n (omega arith))
-      (ap (λ (x : ℕ). record { at = mapStart g₀ n; size = x } ∷ []) (bytes-length n l))
-
-  -- Block t of volume n has the bytes drawn from 16 × (m × n + t) on as its IV.
-  pub mapPatches-stored : (length (h .maps) ≡ 15 * g₀ .p) → K ≤ 15 → (n : ℕ) → n ≤ K
-      → mapPatches h tape n ≡ mapsStored h (part (h .position) (16 * m * K) tape) n
-  unfolding mapPatches mapBytes mapsStored
-  mapPatches-stored fits low zero l = refl
-  mapPatches-stored fits low (suc n) l =
-      ap₂ (λ (ps : List Patch) (b : List ℕ). ps ++ record { at = mapStart g₀ n; bytes = b } ∷ []) (mapPatches-stored fits low n (omega arith))
-      (joined-ext m _ _ (λ t lt.
-      mapBlock-row (h .maps) g₀ n t (omega (arith, mul-le-mul-right {m = n + 1} {n = 15} (g₀ .p) (omega arith))) (keyOf (h .session) n) _
-      ∙ ap (λ (iv : List ℕ). mapStored (h .maps) g₀ (keyOf (h .session) n) iv n t) (drawn-at t lt)))
+  -- An entry is read from its own map block alone.
+  storedEntry-same : (key s s′ : List ℕ) (i σ : ℕ) → σ < g .p
+      → part (mapBlockStart g i (σ / c)) (g .b) s ≡ part (mapBlockStart g i (σ / c)) (g .b) s′
+      → storedEntry g key (headerOf g s i) σ ≡ storedEntry g key (headerOf g s′ i) σ
+  unfolding storedEntry
+  storedEntry-same key s s′ i σ lσ e =
+      ap₂ (λ (iv text : List ℕ). numberAt (4 * (σ % c)) (ctr key iv text))
+      (ap (λ (y : ℕ). part y 16 (headerOf g s i)) (sym (add-zero from))
+      ∙ within 0 16 (omega (arith, wide))
+      ∙ ap (λ (y : ℕ). part y 16 (headerOf g s′ i)) (add-zero from))
+      (within 16 (g .b - 16) (omega (arith, wide)))
     where
-      drawn-at : (t : ℕ) → t < m → part (at n + 16 * t) 16 tape ≡ part (16 * (m * n + t)) 16 (part (h .position) (16 * m * K) tape)
-      drawn-at t lt =
-          let here : at n + 16 * t ≡ h .position + 16 * (m * n + t) = omega arith in
-          ap (λ (y : ℕ). part y 16 tape) here
-          ∙ sym (part-part tape (h .position) (16 * m * K) (16 * (m * n + t)) 16 (omega (arith, mul-le-mul-left m l)))
+      wide : 1024 ≤ g .b
+      wide = b-bounds g ok .0
 
-  module _ (s : List ℕ) (long : length s ≡ deviceLength g₀) (low : K ≤ 15) where
-    -- The device after the maps of the first n volumes.
-    abbrev after : ℕ → List ℕ
-    after n = patched (mapPatches h tape n) s
+      from : ℕ
+      from = g .b * (1 + σ / c)
 
-    -- The maps stand where they were stored, since each ends where the next header begins.
-    abbrev stored : ℕ → Patch
-    stored i = record { at = mapStart g₀ i; bytes = bytes i }
+      same : part from (g .b) (headerOf g s i) ≡ part from (g .b) (headerOf g s′ i)
+      same = header-block g s i (σ / c) (mapBlock-of g ok σ lσ) ∙ e ∙ sym (header-block g s′ i (σ / c) (mapBlock-of g ok σ lσ))
 
-    mapPatches-joined : (n : ℕ) → mapPatches h tape n ≡ joined n (λ i. stored i ∷ [])
-    unfolding mapPatches joined
-    mapPatches-joined zero = refl
-    mapPatches-joined (suc n) = ap (λ (ps : List Patch). ps ++ stored n ∷ []) (mapPatches-joined n)
+      within : (x n : ℕ) → x + n ≤ g .b → part (from + x) n (headerOf g s i) ≡ part (from + x) n (headerOf g s′ i)
+      within x n fits =
+          sym (part-part (headerOf g s i) from (g .b) x n fits) ∙ ap (part x n) same ∙ part-part (headerOf g s′ i) from (g .b) x n fits
 
-    maps-inOrder : InOrder (headerStart g₀ 0) (joined K (λ i. stored i ∷ [])) (headerStart g₀ K)
-    unfolding mapStart
-    maps-inOrder = joined-inOrder (headerStart g₀) (λ i. stored i ∷ []) K (λ i l. (omega arith, omega (arith, bytes-length i l)))
+  -- Two map blocks lie apart.
+  blocks-apart : (i j t u : ℕ) → t < m → u < m → (i ≡ j → t ≡ u → ⊥) → Apart (mapBlockStart g i t) (g .b) (mapBlockStart g j u) (g .b)
+  unfolding mapStart
+  blocks-apart i j t u lt lu ne =
+      ⊎-elim (λ l. inl (omega (arith, volumes l, mul-le-mul-left (g .b) lt)))
+      (⊎-elim (λ e. ⊎-elim (λ l. inl (rw e (omega (arith, blocks {v = t} {w = u} l))))
+      (⊎-elim (λ q. absurd (ne e q)) (λ l. inr (rw e (omega (arith, blocks {v = u} {w = t} l))))) (three t u))
+      (λ l. inr (omega (arith, volumes l, mul-le-mul-left (g .b) lu))))
+      (three i j)
+    where
+      volumes : {v w : ℕ} → v < w → g .b * ((v + 1) * (1 + m)) ≤ g .b * (w * (1 + m))
+      volumes {v} {w} l = mul-le-mul-left (g .b) (mul-le-mul-right {m = v + 1} {n = w} (1 + m) (omega arith))
 
-    maps-stand : (i : ℕ) → i < K → part (mapStart g₀ i) (g₀ .b * m) (after K) ≡ bytes i
-    maps-stand i l =
-        ap (λ (ps : List Patch). part (mapStart g₀ i) (g₀ .b * m) (patched ps s)) (mapPatches-joined K)
-        ∙ patched-whole (headerStart g₀ 0) (joined K (λ v. stored v ∷ [])) (headerStart g₀ K) s maps-inOrder
-        (omega (arith, headers-fit g₀ ok K low)) (stored i) (joined-member (λ v. stored v ∷ []) K i l (List·Memᴰ·head refl)) (g₀ .b * m)
-        (bytes-length i l)
+      blocks : {v w : ℕ} → v < w → g .b * (v + 1) ≤ g .b * w
+      blocks {v} {w} l = mul-le-mul-left {m = v + 1} {n = w} (g .b) (omega arith)
 
-    after-suc : (n : ℕ) → after (suc n) ≡ overlay (after n) (mapStart g₀ n) (bytes n)
-    unfolding mapPatches patched
-    after-suc n = patched-++ (mapPatches h tape n) _ s
+  -- ---- stored on a device
 
-    -- What no map covers stays.
-    pub mapPatches-elsewhere : (n : ℕ) → n ≤ K → (a w : ℕ) → ((v : ℕ) → v < n → Apart a w (mapStart g₀ v) (g₀ .b * m))
-        → part a w (after n) ≡ part a w s
-    unfolding mapPatches patched
-    mapPatches-elsewhere zero l a w out = refl
-    mapPatches-elsewhere (suc n) l a w out =
-        ap (part a w) (after-suc n)
-        ∙ overlay-apart (after n) (mapStart g₀ n) (bytes n) a w (g₀ .b * m) (bytes-length n l) (out n (omega arith))
-        ∙ mapPatches-elsewhere n (omega arith) a w (λ v k. out v (omega arith))
+  module _ (device : List ℕ) (long : length device ≡ deviceLength g) (maps key iv : List ℕ) (ivl : length iv ≡ 16) (i t : ℕ) (li : i < 15)
+      (lt : t < m) where
+    abbrev at : ℕ
+    at = mapBlockStart g i t
 
-    module _ (i t : ℕ) (li : i < K) (lt : t < m) where
-      abbrev key : List ℕ
-      key = keyOf (h .session) i
+    abbrev device′ : List ℕ
+    device′ = overlay device at (mapBlock maps g key i t iv)
 
-      abbrev iv-at : List ℕ
-      iv-at = part (at i + 16 * t) 16 tape
+    whole : length (mapBlock maps g key i t iv) ≡ g .b
+    whole = mapBlock-length maps g i t ok key iv ivl
 
-      abbrev header : List ℕ
-      header = headerOf g₀ (after K) i
-
-      -- Map block t, seen through the header.
-      header-block : part (g₀ .b * (1 + t)) (g₀ .b) header ≡ mapBlock (h .maps) g₀ key i t iv-at
-      unfolding mapStart
-      header-block =
-          let q : headerStart g₀ i + g₀ .b * (1 + t) ≡ mapStart g₀ i + g₀ .b * t = omega arith in
-          part-part (after K) (headerStart g₀ i) (g₀ .b * (1 + m)) (g₀ .b * (1 + t)) (g₀ .b) (omega (arith, mul-le-mul-left (g₀ .b) lt))
-          ∙ ap (λ (y : ℕ). part y (g₀ .b) (after K)) q
-          ∙ mapBlock-stands (h .maps) g₀ ok key i tape (at i) (left i li) (after K) (maps-stand i li) t lt
-
-    -- What is read back is what was held.
-    pub storedEntry-back : (i σ : ℕ) → i < K → σ < g₀ .p → EntryFits g₀ (entry (h .maps) g₀ i σ)
-        → storedEntry g₀ (keyOf (h .session) i) (headerOf g₀ (after K) i) σ ≡ entry (h .maps) g₀ i σ
+    -- What is read back is what the table has.
+    pub block-entry : (σ : ℕ) → σ < g .p → σ / c ≡ t → EntryFits g (entry maps g i σ)
+        → storedEntry g key (headerOf g device′ i) σ ≡ entry maps g i σ
     unfolding mapBlock mapText
-    storedEntry-back i σ li lσ fits =
-        let t = σ / c in
-        let lt = mapBlock-of g₀ ok σ lσ in
-        ap (storedEntry g₀ (keyOf (h .session) i) (headerOf g₀ (after K) i)) (sym (div-add-mod' σ c))
-        ∙ sealed-entry g₀ ok (keyOf (h .session) i) (iv-at i t li lt) (headerOf g₀ (after K) i)
-        (λ e. choose (ltb (t * c + e) (g₀ .p)) (entry (h .maps) g₀ i (t * c + e)) unmapped) t (σ % c)
-        (iv-length (h .maps) g₀ ok (keyOf (h .session) i) i tape (at i) (left i li) t lt) (mod-lt σ (perBlock-least g₀ ok))
-        (rw this (⊎-elim (λ e. omega arith) (λ e. omega (arith, ok .slices-most)) fits)) (header-block i t li lt)
+    block-entry σ lσ here fits =
+        ap (storedEntry g key (headerOf g device′ i)) (sym digits)
+        ∙ map-entry g ok device′ key iv (λ e. choose (ltb (t * c + e) (g .p)) (entry maps g i (t * c + e)) unmapped) i t (σ % c) lt
+        (mod-lt σ (perBlock-least g ok)) ivl (rw this (⊎-elim (λ e. omega arith) (λ e. omega (arith, ok .slices-most)) fits))
+        (overlay-whole device at _ (g .b) whole (omega (arith, map-fits g ok i t (omega arith) lt)))
         ∙ this
       where
-        c : ℕ
-        c = perBlock g₀
+        digits : t * c + σ % c ≡ σ
+        digits = rw (← here) (div-add-mod' σ c)
 
-        this : choose (ltb (σ / c * c + σ % c) (g₀ .p)) (entry (h .maps) g₀ i (σ / c * c + σ % c)) unmapped ≡ entry (h .maps) g₀ i σ
-        this = rw (div-add-mod' σ c, lt-ltb σ (g₀ .p) lσ) refl
+        this : choose (ltb (t * c + σ % c) (g .p)) (entry maps g i (t * c + σ % c)) unmapped ≡ entry maps g i σ
+        this = rw (digits, lt-ltb σ (g .p) lσ) refl
+
+    -- Every other block reads as before.
+    pub block-other : (key′ : List ℕ) (j σ : ℕ) → σ < g .p → (j ≡ i → σ / c ≡ t → ⊥)
+        → storedEntry g key′ (headerOf g device′ j) σ ≡ storedEntry g key′ (headerOf g device j) σ
+    block-other key′ j σ lσ ne =
+        storedEntry-same key′ device′ device j σ lσ
+        (overlay-apart device at _ (mapBlockStart g j (σ / c)) (g .b) (g .b) whole
+        (blocks-apart j i (σ / c) t (mapBlock-of g ok σ lσ) lt ne))
+
+    -- What lies apart from the volume's maps stays, and so do the slices.
+    pub maps-kept : (a n : ℕ) → Apart a n (mapStart g i) (g .b * m) → part a n device′ ≡ part a n device
+    maps-kept a n out =
+        overlay-apart device at _ a n (g .b) whole
+        (⊎-elim (λ l. inl (omega arith)) (λ l. inr (omega (arith, mul-le-mul-left (g .b) lt))) out)
+
+    slices-kept : (a n : ℕ) → sliceStart g 0 ≤ a → part a n device′ ≡ part a n device
+    unfolding mapStart sliceStart headerBlocks
+    slices-kept a n l = maps-kept a n (inr (omega (arith, mul-le-mul-left (g .b) (mul-le-mul-right (1 + m) li))))
+
+    pub deciphered-kept : (key′ : List ℕ) (ψ j : ℕ) → deciphered g key′ ψ j device′ ≡ deciphered g key′ ψ j device
+    unfolding ivStart blockStart
+    deciphered-kept key′ ψ j =
+        deciphered-same g key′ ψ j device′ device
+        (λ l. (
+          slices-kept (ivStart g ψ j) 16 (omega (arith, slice-first g ψ)),
+          slices-kept (blockStart g ψ j) (g .b) (omega (arith, slice-first g ψ)),
+        ))

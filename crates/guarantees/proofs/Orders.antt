@@ -1,34 +1,35 @@
 -- The refusals of each call, in their order: the number that the model's chain gives is that of the first rule that holds.
 -- Assumes nothing.
-use Prim.Native.Nat.{ℕ, zero, suc, _+_, _*_, _/_, _%_, _≤_, _<_}
-use mathlib.Core.Path.{_≡_, sym}
+use Prim.Native.Nat.{ℕ, zero, suc, _+_, _*_, _/_, _≤_, _<_}
+use mathlib.Core.Path.{_≡_, sym, _∙_}
 use mathlib.Core.Logic.{_⊎_, inl, inr, ⊎-elim}
-use mathlib.Core.Bool.{false, not}
+use mathlib.Core.Bool.{false, not, false≢true}
 use mathlib.Core.List.{List, [], _∷_, _++_}
 use native.Mathlib.Omega.{arith}
-use lib.ListN.{length, getD}
+use lib.ListN.{length}
 use lib.Dec.{ltb, eqb}
 use Rattle.refusals.specs.Numbers.{refuse}
 use Rattle.model.specs.declared.Geometry.{Geometry}
 use Rattle.model.specs.declared.Session.{Session}
 use Rattle.model.specs.Geometry.{badGeometry, countIn, badCount, anyBadCount, deviceLength, Allowed}
-use Rattle.model.specs.Session.{Held, geometry, countOf, blockCount, unmapped, entryOf, badEntry, badEntryAt, standing, asked, short}
+use Rattle.model.specs.Session.{Held, geometry, countOf, blockCount, unmapped, entryOf, badEntry, standing, asked, short}
 use Rattle.model.specs.Permutation.{member, missing, badPermutation}
 use Rattle.model.specs.Opening.{openRefusal}
 use Rattle.model.specs.Read.{readRefusal}
 use Rattle.model.specs.Write.{writeRefusal}
 use Rattle.model.specs.Release.{releaseRefusal}
-use Rattle.model.specs.Close.{anyBad, closeRefusal}
+use Rattle.model.specs.Maps.{badInBlock}
 use Rattle.model.specs.Format.{formatNeed, formatRefusal}
-use Rattle.model.specs.Conditions.{CountFits, CountsFit, Counted, Usable, TablesFit, EntryFits, EntryFitsAt, Enough, sliceAt, Names}
+use Rattle.model.specs.Conditions.{CountFits, CountsFit, Counted, Usable, TablesFit, EntryFits, BlockFits, Enough, sliceAt, Names}
 use Rattle.model.proofs.Tests.{below}
-use Rattle.model.proofs.Requests.{short-false, short-true, Formattable}
+use Rattle.model.proofs.Bounds.{perBlock-least}
+use Rattle.model.proofs.Requests.{short-false, short-true, badInBlock-none, badInBlock-fits, Formattable}
 use Rattle.guarantees.specs.Rules.{Rule, rule}
 use Rattle.guarantees.specs.Rules.{standingRules, askedRules, openRules, formatTape, formatRules, readRules, releaseRules, closeRules, tableEntry}
 use Rattle.guarantees.proofs.Reflects.{Reflects, fails, ltb-reflects, leb-reflects, eqb-reflects, bool-reflects, reflects-map, or-reflects}
-use Rattle.guarantees.proofs.Reflects.{and-reflects, Refutes, refuted, not-refutes, ltb-refutes, or-refutes}
+use Rattle.guarantees.proofs.Reflects.{Refutes, refuted, not-refutes, ltb-refutes, or-refutes}
 use Rattle.guarantees.proofs.Reflects.{refutes-passed, refutes-stable, Below, below-zero-refutes, below-suc-refutes, anyBelow-refutes}
-use Rattle.guarantees.proofs.Chains.{Guards, refuse-guards, guards-map, guards-both, Leads, none, leads-refuse, leads-row}
+use Rattle.guarantees.proofs.Chains.{Guards, refuse-guards, guards-map, guards-both, Leads, none, leads-refuse, leads-given, leads-row}
 use Rattle.guarantees.proofs.Chains.{Comes, comes-map, comes-rest, comes-rule, comes-row}
 
 -- ---- the tests of the rows
@@ -51,12 +52,6 @@ badGeometry-guards n g =
 badEntry-refutes : (g : Geometry) (x : ℕ) → Refutes (EntryFits g x) (badEntry (g .p) x)
 badEntry-refutes g x = not-refutes (or-reflects (eqb-reflects x unmapped) (ltb-reflects x (g .p)))
 
--- The same at an index of the map table (document 02, P4).
-badEntryAt-refutes : (p : ℕ) (counts : List ℕ) (n x : ℕ) → Refutes (EntryFitsAt p counts n x) (badEntryAt p counts n x)
-badEntryAt-refutes p counts n x =
-    not-refutes (or-reflects (eqb-reflects x unmapped)
-    (and-reflects (ltb-reflects x p) (ltb-reflects (n % p) (countIn counts (n / p)))))
-
 pub badCount-refutes : (p n : ℕ) → Refutes (CountFits p n) (badCount p n)
 badCount-refutes p n = or-refutes (ltb-refutes n 1) (ltb-refutes p n)
 
@@ -68,7 +63,7 @@ anyBadCount-refutes p counts n =
 pub short-refutes : (tape position need : ℕ) → Refutes (Enough tape position need) (short tape position need)
 short-refutes tape position need = refuted (short tape position need) (short-true tape position need) (short-false tape position need)
 
--- ---- the permutation, and the entries of a close
+-- ---- the permutation, and the entries of a map block
 
 -- Some place of a permutation names slice ψ.
 abbrev Named : List ℕ → ℕ → Type 0
@@ -97,11 +92,11 @@ missing-refutes (suc n) perm = below-suc-refutes (Named perm) n (missing-refutes
 pub missing-names : (p : ℕ) (perm : List ℕ) → length perm ≡ p → missing p perm ≡ false → Names p perm
 missing-names p perm places e = record { places = places; each = refutes-passed (missing-refutes p perm) e }
 
-anyBad-refutes : (p : ℕ) (counts maps : List ℕ) (n : ℕ)
-    → Refutes (Below n (λ m. EntryFitsAt p counts m (getD maps m 0))) (anyBad p counts maps n)
-unfolding anyBad
-anyBad-refutes p counts maps n =
-    anyBelow-refutes (λ m. EntryFitsAt p counts m (getD maps m 0)) _ (λ m. badEntryAt-refutes p counts m (getD maps m 0)) n
+pub badInBlock-refutes : (maps : List ℕ) (s : Session) (i σ : ℕ) → Allowed (s .geometry)
+    → Refutes (BlockFits maps s i σ) (badInBlock maps s i σ)
+badInBlock-refutes maps s i σ ok =
+    let some = perBlock-least (s .geometry) ok in
+    refuted (badInBlock maps s i σ) (λ e fits. false≢true (sym (badInBlock-fits maps s i σ some fits) ∙ e)) (badInBlock-none maps s i σ some)
 
 -- ---- the orders
 
@@ -131,14 +126,14 @@ names-guards p perm =
 pub names-stable : (p : ℕ) (perm : List ℕ) → ((Names p perm → ⊥) → ⊥) → Names p perm
 names-stable p perm = refutes-stable (names-guards p perm .decides)
 
-standing-leads : (device maps owners : ℕ) (s : Session) {rs : List Rule} {rest : ℕ} → Leads rs rest 0
+standing-leads : (device maps owners : ℕ) (s : Session) {rs : List Rule} {rest : ℕ} → (Usable s → Leads rs rest 0)
     → Leads (standingRules device maps owners s ++ rs) (standing device maps owners s rest) 0
 unfolding standing
 standing-leads device maps owners s q =
-    leads-row (usable-guards s)
-    (leads-row (differ-guards 2 device (deviceLength (s .geometry)))
+    leads-given (usable-guards s)
+    (λ u. leads-row (differ-guards 2 device (deviceLength (s .geometry)))
     (leads-row (tables-guards (s .geometry) maps owners)
-    q))
+    (q u)))
 
 asked-leads : (maps : List ℕ) (s : Session) (i a len : ℕ) → Leads (askedRules maps s i a len) (asked maps s i a len) 0
 unfolding asked
@@ -163,7 +158,7 @@ open-leads g device key maps owners perm =
 pub read-leads : (device : ℕ) (maps owners : List ℕ) (s : Session) (i a room : ℕ)
     → Leads (readRules device maps owners s i a room) (readRefusal device maps owners s i a room) 0
 unfolding readRefusal
-read-leads device maps owners s i a room = standing-leads device (length maps) (length owners) s (asked-leads maps s i a room)
+read-leads device maps owners s i a room = standing-leads device (length maps) (length owners) s (λ u. asked-leads maps s i a room)
 
 -- The rules of a write that come before the entry is looked up, for a text of len bytes and a permutation of so many places.
 abbrev pub earlyRules : (device : ℕ) → Held → (i a len places : ℕ) → List Rule
@@ -176,27 +171,24 @@ pub write-leads : (device : ℕ) (h : Held) (i a len places : ℕ)
 unfolding writeRefusal
 write-leads device h i a len places =
     standing-leads device (length (h .maps)) (length (h .owners)) (h .session)
-    (leads-row (differ-guards 5 places (geometry h .p)) (asked-leads (h .maps) (h .session) i a len))
+    (λ u. leads-row (differ-guards 5 places (geometry h .p)) (asked-leads (h .maps) (h .session) i a len))
 
-pub release-leads : (device : ℕ) (h : Held) (i σ : ℕ) (perm : List ℕ)
-    → Leads (releaseRules device h i σ perm) (releaseRefusal device (h .maps) (h .owners) (h .session) i σ perm) 0
+pub release-leads : (device : ℕ) (h : Held) (i σ : ℕ) (perm : List ℕ) (tape : ℕ)
+    → Leads (releaseRules device h i σ perm tape) (releaseRefusal device h i σ perm tape) 0
 unfolding releaseRefusal
-release-leads device h i σ perm =
+release-leads device h i σ perm tape =
     standing-leads device (length (h .maps)) (length (h .owners)) (h .session)
-    (leads-row (names-guards (geometry h .p) perm)
+    (λ u. leads-row (names-guards (geometry h .p) perm)
     (leads-refuse 11 (ltb-reflects (h .session .k) i)
     (leads-refuse 12 (leb-reflects (countOf (h .session) i) σ)
-    (leads-row (refuse-guards 9 (badEntry-refutes (geometry h) (tableEntry h i σ)))
+    (leads-row (refuse-guards 9 (badInBlock-refutes (h .maps) (h .session) i σ (u .allowed)))
     (leads-refuse 25 (eqb-reflects (tableEntry h i σ) unmapped)
-    none)))))
+    (leads-row (refuse-guards 21 (short-refutes tape (h .position) 16))
+    none))))))
 
-pub close-leads : (device : ℕ) (h : Held) (tape : ℕ) → Leads (closeRules device h tape) (closeRefusal device h tape) 0
-unfolding closeRefusal
-close-leads device h tape =
-    standing-leads device (length (h .maps)) (length (h .owners)) (h .session)
-    (leads-row (refuse-guards 9 (anyBad-refutes (geometry h .p) (h .session .counts) (h .maps) ((h .session .k + 1) * geometry h .p)))
-    (leads-row (refuse-guards 21 (short-refutes tape (h .position) _))
-    none))
+pub close-leads : (device : ℕ) (h : Held)
+    → Leads (closeRules device h) (standing device (length (h .maps)) (length (h .owners)) (h .session) 0) 0
+close-leads device h = standing-leads device (length (h .maps)) (length (h .owners)) (h .session) (λ u. none)
 
 -- ---- formatting
 

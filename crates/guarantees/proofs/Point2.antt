@@ -1,46 +1,50 @@
 -- Point 2: every open volume is an array of blocks, and every answer is the one due, over every list of calls. Assumes nothing.
-use Prim.Native.Nat.{ℕ, suc, _+_, _*_, _/_, _%_, _≤_, _<_}
+use Prim.Native.Nat.{ℕ, suc, _+_, _*_, _≤_, _<_}
 use mathlib.Core.Path.{_≡_, refl, sym, ap, _∙_, subst}
 use mathlib.Core.List.{List, [], _∷_}
 use mathlib.Core.Bool.{true}
 use mathlib.Core.Logic.{_⊎_, inl, inr, ⊎-elim}
 use native.Mathlib.Omega.{arith}
-use native.Mathlib.Nat.{le-refl, div-add-mod', mod-lt, div-lt-iff-lt-mul}
-use lib.ListN.{length, getD}
+use native.Mathlib.Nat.{le-refl, mul-le-mul-left, mul-le-mul-right}
+use lib.ListN.{length, getD, set}
 use borrow.Author.Tests.{eq-eqb, ne-eqb}
 use Rattle.refusals.specs.Numbers.{refuse}
 use Rattle.model.specs.declared.Geometry.{Geometry}
 use Rattle.model.specs.declared.Session.{Session}
 use Rattle.model.specs.Parts.{part, overlay, patched}
-use Rattle.model.specs.Geometry.{sliceStart, ivStart, blockStart, Allowed}
-use Rattle.model.specs.Session.{Held, Outcome, geometry, keyOf, countOf, blockCount, sliceOf, offsetOf, unmapped, asked, idle, startingAt}
+use Rattle.model.specs.Geometry.{Allowed, mapBlocks, headerBlocks, headerStart, mapStart, mapBlockStart, sliceStart, ivStart, blockStart}
+use Rattle.model.specs.Session.{Held, Outcome, geometry, keyOf, countOf, blockCount, slot, sliceOf, offsetOf, unmapped, asked, idle, startingAt}
+use Rattle.model.specs.Maps.{mapBlockOf, mapBlock}
+use Rattle.model.specs.Opening.{storedEntry}
 use Rattle.model.specs.Read.{deciphered, blockOf, readRefusal, readModel, findModel}
-use Rattle.model.specs.Write.{WriteResult, rewritten, claimed, full, claimedBytes, writeRefusal, writeModel}
+use Rattle.model.specs.Write.{WriteResult, claimNeed, rewritten, claimed, full, claimedBytes, writeRefusal, writeModel}
 use Rattle.model.specs.Permutation.{placeOf}
 use Rattle.model.specs.Release.{ReleaseResult, released, releaseModel}
 use Rattle.model.specs.Close.{CloseResult, closeModel}
 use Rattle.guarantees.specs.Runs.{State, Call, Reading, Finding, Writing, Releasing, Closing, Writes, Releases, outcome, next, events, final, left}
-use Rattle.model.specs.Conditions.{Usable, EntryFitsAt, Enough, Names}
-use Rattle.guarantees.specs.Rules.{releaseRules, closeRules, heldEntry, tableEntry, FreeAt}
+use Rattle.model.specs.Conditions.{Usable, Enough, Names}
+use Rattle.guarantees.specs.Rules.{releaseRules, closeRules, heldEntry, tableEntry, FreeAt, HeldFits}
 use Rattle.guarantees.specs.Arrays.{Arrays, put, cleared, arraysAfter, arraysAfterAll, Fits, Unfit, ReadDue, FindDue, found, nowhere}
-use Rattle.guarantees.specs.Arrays.{WriteDue, rewrite-short, claim-short, no-slice, ReleaseDue, freed, CloseDue, done, close-short, Due, AllDue}
+use Rattle.guarantees.specs.Arrays.{WriteDue, rewrite-short, claim-short, no-slice, ReleaseDue, freed, release-short, CloseDue, done, Due, AllDue}
 use Rattle.model.proofs.Parts.{part-length, overlay-before, overlay-length, patched-length}
 use Rattle.model.proofs.Tests.{equal}
-use Rattle.model.proofs.Bounds.{offsetOf-lt}
+use Rattle.model.proofs.Bounds.{offsetOf-lt, mapBlock-of}
 use Rattle.model.proofs.Requests.{readRefusal-none, readRefusal-served, asked-slice}
 use Rattle.model.proofs.Blocks.{deciphered-unmapped}
 use Rattle.guarantees.proofs.Reflects.{ltb-reflects, eqb-reflects, bool-reflects, reflects-stable, choose-reflects}
 use Rattle.guarantees.proofs.Chains.{Leads, here, later}
 use Rattle.guarantees.proofs.Orders.{names-stable, earlyRules, write-leads, release-leads, close-leads}
-use Rattle.guarantees.proofs.Places.{slice-first}
+use Rattle.guarantees.proofs.Places.{Apart, slice-first}
 use Rattle.guarantees.proofs.SoundTables.{SoundTables, OpenVolume, sound-fits}
 use Rattle.guarantees.proofs.Blocks.{same-address, restored-here, restored-other, claimedText}
 use Rattle.guarantees.proofs.Blocks.{filled-here, filled-other}
-use Rattle.guarantees.proofs.Cases.{unless-cases, Stands, stands-at, Asked, Ready, readRefusalOf, writeRefusalOf}
+use Rattle.guarantees.proofs.Cases.{unless-cases, Stands, stands-at, Asked, Ready, readRefusalOf, writeRefusalOf, Claimable}
 use Rattle.guarantees.proofs.Cases.{Writable, write-cases, write-stores, Releasable, release-cases, close-cases}
 use Rattle.guarantees.proofs.Entries.{set-slice, set-entry, set-entry-other}
 use Rattle.guarantees.proofs.Claims.{claimed-stands, free-new, claimed-sound}
 use Rattle.guarantees.proofs.Releases.{released-stands, released-cases, released-sound}
+use Rattle.guarantees.proofs.MapBlocks.{maps-kept, deciphered-kept}
+use Rattle.guarantees.proofs.OnDevice.{OnDevice, set-onDevice}
 
 -- ---- one block replaced
 
@@ -56,17 +60,36 @@ put-other arrays i a text j b ne = ⊎-elim (λ e. rw (eq-eqb j i e, ne-eqb b a 
 abbrev pub arraysOf : State → Arrays
 arraysOf st = blockOf (st .device) (st .held .maps) (st .held .session)
 
--- The session stays but for its start place, the tables are sound, cells and headers stay but for the maps, and the arrays are what the device
--- deciphers to.
+-- The session stays but for its start place, the tables are sound, cells and headers stay but for the maps, the maps on the device are those
+-- held, and the arrays are what the device deciphers to.
 pub record Open (first : State) (arrays : Arrays) (st : State) : Type 0 where
   pub stands : Stands (length (st .device)) (st .held)
   pub sound : SoundTables (st .held)
   pub session : st .held .session ≡ startingAt (st .held .session .start) (first .held .session)
-  pub header : (a n : ℕ) → a + n ≤ sliceStart (geometry (st .held)) 0 → part a n (st .device) ≡ part a n (first .device)
+  pub header : (a n : ℕ) → a + n ≤ sliceStart (geometry (st .held)) 0
+      → ((v : ℕ) → Apart a n (mapStart (geometry (st .held)) v) (geometry (st .held) .b * mapBlocks (geometry (st .held))))
+      → part a n (st .device) ≡ part a n (first .device)
+  pub on-device : OnDevice (st .device) (st .held)
   pub holds : (j b : ℕ) → OpenVolume (st .held) j → b < blockCount (st .held .session) j → arrays j b ≡ arraysOf st j b
 
-abbrev pub Kept : State → Arrays → State → Type 0
-Kept first arrays st = st .held .session .opened ≡ true → Open first arrays st
+-- All this of what is held, and once the session is closed of what was held last.
+pub record Kept (first : State) (arrays : Arrays) (st : State) : Type 0 where
+  pub last : Held
+  pub sound : Open first arrays (record { device = st .device; held = last })
+  pub now : st .held .session .opened ≡ true → last ≡ st .held
+
+pub open-now : {first : State} {arrays : Arrays} {st : State} → Kept first arrays st → st .held .session .opened ≡ true → Open first arrays st
+open-now {first} {arrays} {st} kept live =
+    subst (λ (h : Held). Open first arrays (record { device = st .device; held = h })) (kept .now live) (kept .sound)
+
+-- What is held after a call that leaves the session open.
+pub kept-open : {first : State} {arrays : Arrays} {st : State} → Open first arrays st → Kept first arrays st
+kept-open {st = st} op = record { last = st .held; sound = op; now = λ live. refl }
+
+-- A header with its maps ends before the first slice.
+header-ends : (g : Geometry) (i : ℕ) → i < 15 → headerStart g i + g .b * (1 + mapBlocks g) ≤ sliceStart g 0
+unfolding sliceStart headerBlocks
+header-ends g i l = omega (arith, mul-le-mul-left (g .b) (mul-le-mul-right (1 + mapBlocks g) l))
 
 module _ (first : State) (device : List ℕ) (h : Held) (i a : ℕ) (text perm tape : List ℕ) (arrays : Arrays)
     (kept : Kept first arrays (record { device = device; held = h })) where
@@ -91,7 +114,7 @@ module _ (first : State) (device : List ℕ) (h : Held) (i a : ℕ) (text perm t
 
   module _ (w : Writable (length device) h i a text perm) where
     op : Open first arrays (record { device = device; held = h })
-    op = kept (w .stands .usable .opened)
+    op = open-now kept (w .stands .usable .opened)
 
     ok : Allowed g
     ok = w .stands .usable .allowed
@@ -113,36 +136,44 @@ module _ (first : State) (device : List ℕ) (h : Held) (i a : ℕ) (text perm t
 
     filled : Keeps (full h)
     unfolding arraysAfter patched
-    filled live =
-        record {
+    filled =
+        kept-open (record {
           stands = stands-at h (full h .held) (w .stands) (le-refl (g .p)) refl refl refl refl;
           sound =
               let a = op .sound .apart in
               record { whole = op .sound .whole; apart = record { once = a .once; owner = a .owner; free = a .free } };
           session = restarted (g .p);
           header = op .header;
+          on-device = op .on-device;
           holds = op .holds;
-        }
+        })
 
     rewrites : heldEntry h i a < g .p → Enough (length tape) (h .position) 16 → Keeps (rewritten h i (heldEntry h i a) j₀ text tape)
     unfolding arraysAfter patched ivStart blockStart
-    rewrites l enough live =
-        record {
+    rewrites l enough =
+        kept-open (record {
           stands =
               record { usable = w .stands .usable; long = patched-length (o .patches) device ∙ w .stands .long; tables = w .stands .tables };
           sound =
               let a = op .sound .apart in
               record { whole = op .sound .whole; apart = record { once = a .once; owner = a .owner; free = a .free } };
           session = op .session;
-          header = λ x n fits.
-              overlay-before _ _ _ x n (omega (arith, slice-first g (heldEntry h i a)))
-              ∙ overlay-before device _ _ x n (omega (arith, slice-first g (heldEntry h i a)))
-              ∙ op .header x n fits;
+          header = λ x n fits out. stays x n fits ∙ op .header x n fits out;
+          on-device = λ v τ ov hτ.
+              ap (λ (header : List ℕ). storedEntry g (key v) header τ)
+              (stays (headerStart g v) (g .b * (1 + mapBlocks g)) (header-ends g v (omega (arith, ov, w .stands .usable .top))))
+              ∙ op .on-device v τ ov hτ;
           holds = λ j b oj hb. ⊎-elim (here j b) (other j b oj hb) (both j b);
-        }
+        })
       where
         o : Outcome WriteResult
         o = rewritten h i (heldEntry h i a) j₀ text tape
+
+        -- What lies before the slices.
+        stays : (x n : ℕ) → x + n ≤ sliceStart g 0 → part x n (patched (o .patches) device) ≡ part x n device
+        stays x n fits =
+            overlay-before _ _ _ x n (omega (arith, slice-first g (heldEntry h i a)))
+            ∙ overlay-before device _ _ x n (omega (arith, slice-first g (heldEntry h i a)))
 
         iv : List ℕ
         iv = part (h .position) 16 tape
@@ -169,18 +200,52 @@ module _ (first : State) (device : List ℕ) (h : Held) (i a : ℕ) (text perm t
             ne (sym (q .0)) (same-address g b a (sym (q .1)) f)))
 
     module _ (ψ place : ℕ) (un : heldEntry h i a ≡ unmapped) (f : FreeAt h perm place) (hψ : ψ < g .p) (free : getD (h .owners) ψ 0 ≡ 0)
-        (enough : Enough (length tape) (h .position) (g .b)) where
+        (enough : Enough (length tape) (h .position) (claimNeed g)) where
       abbrev o : Outcome WriteResult
       o = claimed h i σ j₀ ψ place text tape
 
       abbrev ivs : List ℕ
       ivs = part (h .position) (g .b) tape
 
+      -- The device with the slice stored, and with the map block.
       abbrev device′ : List ℕ
       device′ = overlay device (sliceStart g ψ) (claimedBytes (g .b) (g .s) (key i) ivs j₀ text)
 
+      abbrev iv′ : List ℕ
+      iv′ = part (h .position + g .b) 16 tape
+
+      abbrev maps′ : List ℕ
+      maps′ = set (h .maps) (slot g i σ) ψ
+
+      abbrev device″ : List ℕ
+      device″ = overlay device′ (mapBlockStart g i (mapBlockOf g σ)) (mapBlock maps′ g (key i) i (mapBlockOf g σ) iv′)
+
       ivsl : length ivs ≡ g .b
-      ivsl = part-length tape (h .position) (g .b) enough
+      ivsl = part-length tape (h .position) (g .b) (omega (arith, enough))
+
+      ivl′ : length iv′ ≡ 16
+      ivl′ = part-length tape (h .position + g .b) 16 (omega (arith, enough))
+
+      stands′ : Stands (length device′) h
+      stands′ =
+          record { usable = w .stands .usable; long = overlay-length device _ _ ∙ w .stands .long; tables = w .stands .tables }
+
+      -- The slice is stored behind the headers.
+      headers-stay : (x n : ℕ) → x + n ≤ sliceStart g 0 → part x n device′ ≡ part x n device
+      headers-stay x n fits = overlay-before device (sliceStart g ψ) _ x n (omega (arith, slice-first g ψ))
+
+      on-device′ : OnDevice device′ h
+      on-device′ v τ ov hτ =
+          ap (λ (header : List ℕ). storedEntry g (key v) header τ)
+          (headers-stay (headerStart g v) (g .b * (1 + mapBlocks g)) (header-ends g v (omega (arith, ov, w .stands .usable .top))))
+          ∙ op .on-device v τ ov hτ
+
+      low-claimed : i < 15
+      low-claimed = omega (arith, w .asked .volume, w .stands .usable .top)
+
+      -- The map block is stored before the slices.
+      slices-stay : (key′ : List ℕ) (φ n : ℕ) → deciphered g key′ φ n device″ ≡ deciphered g key′ φ n device′
+      slices-stay = deciphered-kept g ok device′ (stands′ .long) maps′ (key i) iv′ ivl′ i (mapBlockOf g σ) low-claimed (mapBlock-of g ok σ hσ)
 
       -- Block n of the claimed slice.
       fresh : (n : ℕ) → n < g .s → deciphered g (key i) ψ n device′ ≡ claimedText g text j₀ n
@@ -227,43 +292,70 @@ module _ (first : State) (device : List ℕ) (h : Held) (i a : ℕ) (text perm t
               ∙ sym (rw (e, f, entry-now) (fresh (offsetOf g b) (offsetOf-lt g ok b) ∙ rw (ne-eqb (offsetOf g b) j₀ d) refl)))
               (equal (offsetOf g b) j₀)
 
+      sound′ : SoundTables (o .held)
+      sound′ = claimed-sound (length device) h i σ j₀ ψ place text tape (w .stands) (w .asked .volume) below (op .sound) hψ free un
+
       claims : Keeps o
       unfolding arraysAfter patched
-      claims live =
-          record {
-            stands = claimed-stands h (w .stands) i σ j₀ ψ place text tape (omega (arith, f .inside, w .places)) (overlay-length device _ _);
-            sound = claimed-sound (length device) h i σ j₀ ψ place text tape (w .stands) (w .asked .volume) below (op .sound) hψ free un;
+      claims =
+          kept-open (record {
+            stands =
+                claimed-stands h (w .stands) i σ j₀ ψ place text tape (omega (arith, f .inside, w .places))
+                (overlay-length device′ _ _ ∙ overlay-length device _ _);
+            sound = sound′;
             session = restarted (place + 1);
-            header = λ x n fits. overlay-before device (sliceStart g ψ) _ x n (omega (arith, slice-first g ψ)) ∙ op .header x n fits;
-            holds = now-is;
-          }
+            header = λ x n fits out.
+                maps-kept g ok device′ (stands′ .long) maps′ (key i) iv′ ivl′ i (mapBlockOf g σ) low-claimed (mapBlock-of g ok σ hσ) x n (out i)
+                ∙ headers-stay x n fits
+                ∙ op .header x n fits out;
+            on-device =
+                set-onDevice device′ h stands′ i σ ψ iv′ (w .asked .volume) below ivl′ on-device′
+                (λ τ hτ. sound-fits sound′ i τ (w .asked .volume) hτ);
+            holds = λ j b oj hb. now-is j b oj hb ∙ sym (slices-stay (key j) (tableEntry (o .held) j (sliceOf g b)) (offsetOf g b));
+          })
 
   -- A write keeps what the list needs, whatever it answers.
   write-keeps : Keeps (writeModel (length device) h i a text perm tape)
-  write-keeps = write-stores (length device) h i a text perm tape Keeps none filled rewrites (λ w u ψ place. claims w ψ place u)
+  write-keeps =
+      write-stores (length device) h i a text perm tape Keeps none filled rewrites (λ c ψ place. claims (c .writable) ψ place (c .mark))
 
-close-keeps : (first : State) (device : List ℕ) (h : Held) (tape : List ℕ) (arrays : Arrays)
-    → Kept first arrays (record { device = device; held = h }) → Kept first arrays (left device (closeModel (length device) h tape))
+-- A close leaves the device, and with it what was held.
+close-keeps : (first : State) (device : List ℕ) (h : Held) (arrays : Arrays)
+    → Kept first arrays (record { device = device; held = h }) → Kept first arrays (left device (closeModel (length device) h))
 unfolding patched
-close-keeps first device h tape arrays kept =
-    close-cases (length device) h tape (λ (o : Outcome CloseResult). Kept first arrays (left device o)) (λ r e. kept)
-    (λ st enough live. let z : _≡_ {A = ℕ} 0 1 = cc in absurd (omega arith))
+close-keeps first device h arrays kept =
+    close-cases (length device) h (λ (o : Outcome CloseResult). Kept first arrays (left device o)) (λ r e. kept)
+    (λ st. record { last = kept .last; sound = kept .sound; now = λ live. let z : _≡_ {A = ℕ} 0 1 = cc in absurd (omega arith) })
 
 -- A release clears the blocks of its logical slice, and every other block stays.
-module _ (first : State) (device : List ℕ) (h : Held) (i σ : ℕ) (perm : List ℕ) (arrays : Arrays)
+module _ (first : State) (device : List ℕ) (h : Held) (i σ : ℕ) (perm tape : List ℕ) (arrays : Arrays)
     (kept : Kept first arrays (record { device = device; held = h })) where
   abbrev Releases-keep : Outcome ReleaseResult → Type 0
-  Releases-keep o = Kept first (arraysAfter (geometry (first .held)) arrays (Releases i σ perm (o .answer))) (left device o)
+  Releases-keep o = Kept first (arraysAfter (geometry (first .held)) arrays (Releases i σ perm tape (o .answer))) (left device o)
 
-  module _ (w : Releasable (length device) h i σ perm) where
+  module _ (w : Releasable (length device) h i σ perm tape) where
     abbrev ψ : ℕ
     ψ = tableEntry h i σ
 
     abbrev after : Outcome ReleaseResult
-    after = released h i σ ψ (placeOf ψ perm)
+    after = released h i σ ψ (placeOf ψ perm) tape
 
     before : Open first arrays (record { device = device; held = h })
-    before = kept (w .stands .usable .opened)
+    before = open-now kept (w .stands .usable .opened)
+
+    ivl : length (part (h .position) 16 tape) ≡ 16
+    ivl = part-length tape (h .position) 16 (w .enough)
+
+    low-freed : i < 15
+    low-freed = omega (arith, w .volume, w .stands .usable .top)
+
+    block : mapBlockOf (geometry h) σ < mapBlocks (geometry h)
+    block = mapBlock-of (geometry h) (w .stands .usable .allowed) σ (set-slice (length device) h i σ unmapped (w .stands) (w .volume) (w .slice))
+
+    behind : (key′ : List ℕ) (φ n : ℕ) → deciphered (geometry h) key′ φ n (left device after .device) ≡ deciphered (geometry h) key′ φ n device
+    unfolding patched
+    behind =
+        deciphered-kept (geometry h) (w .stands .usable .allowed) device (w .stands .long) _ (keyOf (h .session) i) _ ivl i _ low-freed block
 
     same-geometry : geometry h ≡ geometry (first .held)
     same-geometry = ap (λ (s : Session). s .geometry) (before .session)
@@ -274,11 +366,12 @@ module _ (first : State) (device : List ℕ) (h : Held) (i σ : ℕ) (perm : Lis
     clears j b oj hb =
         ⊎-elim
         (λ c. rw (eq-eqb j i (c .0), eq-eqb (sliceOf (geometry h) b) σ (c .1))
-        (sym (deciphered-unmapped (geometry h) (keyOf (h .session) j) _ (offsetOf (geometry h) b) device
+        (sym (deciphered-unmapped (geometry h) (keyOf (h .session) j) _ (offsetOf (geometry h) b) (left device after .device)
         (rw (c .2) (omega (arith, w .stands .usable .allowed .slices-most))))))
         (λ c. other (c .0) ∙ before .holds j b oj hb
-        ∙ ap (λ (x : ℕ). deciphered (geometry h) (keyOf (h .session) j) x (offsetOf (geometry h) b) device) (sym (c .1)))
-        (released-cases (length device) h i σ perm w j (sliceOf (geometry h) b) (omega (arith, asked-slice (w .stands) oj hb)))
+        ∙ ap (λ (x : ℕ). deciphered (geometry h) (keyOf (h .session) j) x (offsetOf (geometry h) b) device) (sym (c .1))
+        ∙ sym (behind (keyOf (h .session) j) _ (offsetOf (geometry h) b)))
+        (released-cases (length device) h i σ perm tape w j (sliceOf (geometry h) b) (omega (arith, asked-slice (w .stands) oj hb)))
       where
         other : (j ≡ i → sliceOf (geometry h) b ≡ σ → ⊥) → cleared (geometry h) arrays i σ j b ≡ arrays j b
         other ne =
@@ -286,22 +379,28 @@ module _ (first : State) (device : List ℕ) (h : Held) (i σ : ℕ) (perm : Lis
 
     releases : Releases-keep after
     unfolding arraysAfter patched
-    releases live =
-        record {
-          stands = released-stands (length device) h i σ perm w;
-          sound = released-sound (length device) h i σ perm w (before .sound);
+    releases =
+        let sound′ = released-sound (length device) h i σ perm tape w (before .sound) in
+        kept-open (record {
+          stands = released-stands (length device) h i σ perm tape w (overlay-length device _ _);
+          sound = sound′;
           session = ap (startingAt _) (before .session);
-          header = before .header;
+          header = λ x n fits out.
+              maps-kept (geometry h) (w .stands .usable .allowed) device (w .stands .long) _ (keyOf (h .session) i) _ ivl i _ low-freed block x n (out i)
+              ∙ before .header x n fits out;
+          on-device =
+              set-onDevice device h (w .stands) i σ unmapped _ (w .volume) (w .slice) ivl (before .on-device)
+              (λ τ hτ. sound-fits sound′ i τ (w .volume) hτ);
           holds = λ j b oj hb. subst (λ (g′ : Geometry). cleared g′ arrays i σ j b ≡ arraysOf (left device after) j b) same-geometry (clears j b oj hb);
-        }
+        })
 
-  release-keeps : Releases-keep (releaseModel (length device) h i σ perm)
+  release-keeps : Releases-keep (releaseModel (length device) h i σ perm tape)
   unfolding arraysAfter patched
-  release-keeps = release-cases (length device) h i σ perm Releases-keep (λ r e. kept) releases
+  release-keeps = release-cases (length device) h i σ perm tape Releases-keep (λ r e. kept) releases
 
 -- ---- the answers that are due
 
-module _ (first : State) (st : State) (arrays : Arrays) (kept : Kept first arrays st) where
+module _ (first : State) (st : State) (arrays : Arrays) (kept : st .held .session .opened ≡ true → Open first arrays st) where
   abbrev h₀ : Held
   h₀ = st .held
 
@@ -380,30 +479,35 @@ module _ (first : State) (st : State) (arrays : Arrays) (kept : Kept first array
       choose-reflects (FindDue (st .device) h₀ i a) _ _ (ltb-reflects (heldEntry h₀ i a) (g₀ .p)) (found f)
       (λ out. nowhere (λ f. ⊎-elim (λ u. u) (λ l. absurd (out l)) (fits-ready (g₀ .p) i a (g₀ .b) f .asked .mapped))))
 
+  -- No entry of an open volume is bad.
+  block-fits : (i σ : ℕ) → h₀ .session .opened ≡ true → OpenVolume h₀ i → HeldFits h₀ i σ
+  block-fits i σ o oi τ hτ same = kept o .sound .whole i τ oi hτ
+
   write-due : (i a : ℕ) (text perm tape : List ℕ) → WriteDue h₀ i a text perm tape (writeModel n h₀ i a text perm tape .answer)
   write-due i a text perm tape =
       write-cases n h₀ i a text perm tape (λ (o : Outcome WriteResult). WriteDue h₀ i a text perm tape (o .answer))
       (λ r e. WriteDue.refused (suc r) (write-unfit (length perm) i a (length text) r e))
       (λ w l s. rewrite-short (fit w) l s)
       (λ w l s. WriteDue.rewritten (fit w) l s)
-      (λ w u place f. no-slice (fit w) u place f)
-      (λ w u f. WriteDue.full (fit w) u f)
-      (λ w u place f s. claim-short (fit w) u place f s)
-      (λ w u ψ place f q s. rw (← q) (WriteDue.claimed (fit w) u place f s))
+      (λ w u spoilt. absurd (spoilt (block-fits i (sliceOf g₀ a) (w .stands .usable .opened) (w .asked .volume))))
+      (λ c place f. no-slice (fit (c .writable)) (c .mark) place f)
+      (λ c f. WriteDue.full (fit (c .writable)) (c .mark) f)
+      (λ c place f s. claim-short (fit (c .writable)) (c .mark) place f s)
+      (λ c ψ place f q s. rw (← q) (WriteDue.claimed (fit (c .writable)) (c .mark) place f s))
     where
       fit : Writable n h₀ i a text perm → Fits h₀ (length perm) i a (length text)
       fit w = asked-fits (length perm) i a (length text) (w .stands) (w .places) (w .asked)
 
-  release-due : (i σ : ℕ) (perm : List ℕ) → ReleaseDue h₀ i σ perm (releaseModel n h₀ i σ perm .answer)
-  release-due i σ perm =
-      release-cases n h₀ i σ perm (λ (o : Outcome ReleaseResult). ReleaseDue h₀ i σ perm (o .answer))
-      (λ r e. go r (rw e at (release-leads n h₀ i σ perm)))
-      (λ w. freed (w .stands .usable .opened) (w .names) (w .volume) (w .slice) (w .mapped))
+  release-due : (i σ : ℕ) (perm tape : List ℕ) → ReleaseDue h₀ i σ perm tape (releaseModel n h₀ i σ perm tape .answer)
+  release-due i σ perm tape =
+      release-cases n h₀ i σ perm tape (λ (o : Outcome ReleaseResult). ReleaseDue h₀ i σ perm tape (o .answer))
+      (λ r e. go r (rw e at (release-leads n h₀ i σ perm (length tape))))
+      (λ w. freed (w .stands .usable .opened) (w .names) (w .volume) (w .slice) (w .mapped) (w .enough))
     where
       named : ((Names (g₀ .p) perm → ⊥) → ⊥) → Names (g₀ .p) perm
       named = names-stable (g₀ .p) perm
 
-      go : (r : ℕ) → Leads (releaseRules n h₀ i σ perm) (suc r) 0 → ReleaseDue h₀ i σ perm (ReleaseResult.Refused (suc r))
+      go : (r : ℕ) → Leads (releaseRules n h₀ i σ perm (length tape)) (suc r) 0 → ReleaseDue h₀ i σ perm tape (ReleaseResult.Refused (suc r))
       go r (here f q c) = rw q (ReleaseDue.shut (λ o. f (kept o .stands .usable)))
       go r (later u (here f q c)) = absurd (f (kept (live u) .stands .long))
       go r (later u (later l (here f q c))) = absurd (f (kept (live u) .stands .tables))
@@ -411,45 +515,39 @@ module _ (first : State) (st : State) (arrays : Arrays) (kept : Kept first array
       go r (later u (later l (later t (later p (here v q c))))) = rw q (ReleaseDue.volume (live u) (named p) v)
       go r (later u (later l (later t (later p (later v (here w q c)))))) = rw q (ReleaseDue.slice (live u) (named p) (omega arith) w)
       go r (later u (later l (later t (later p (later v (later w (here f q c))))))) =
+          absurd (f (block-fits i σ (live u) (omega arith)))
+      go r (later u (later l (later t (later p (later v (later w (later b (here e q c)))))))) =
+          rw q (ReleaseDue.none (live u) (named p) (omega arith) (omega arith) e)
+      go r (later u (later l (later t (later p (later v (later w (later b (later e (here lacking q c))))))))) =
           let op = kept (live u) in
           let volume : OpenVolume h₀ i = omega arith in
           let slice : σ < countOf (h₀ .session) i = omega arith in
-          absurd (f (sound-fits (op .sound) i σ volume (set-slice n h₀ i σ 0 (op .stands) volume slice)))
-      go r (later u (later l (later t (later p (later v (later w (later b (here e q c)))))))) =
-          rw q (ReleaseDue.none (live u) (named p) (omega arith) (omega arith) e)
+          rw q (release-short (live u) (named p) volume slice
+          (⊎-elim (λ mark. absurd (e mark)) (λ l. l) (sound-fits (op .sound) i σ volume (set-slice n h₀ i σ 0 (op .stands) volume slice))) lacking)
 
-  close-due : (tape : List ℕ) → CloseDue h₀ tape (closeModel n h₀ tape .answer)
-  close-due tape =
-      close-cases n h₀ tape (λ (o : Outcome CloseResult). CloseDue h₀ tape (o .answer))
-      (λ r e. go r (rw e at (close-leads n h₀ (length tape)))) (λ s enough. done (s .usable .opened) enough)
+  close-due : CloseDue h₀ (closeModel n h₀ .answer)
+  close-due =
+      close-cases n h₀ (λ (o : Outcome CloseResult). CloseDue h₀ (o .answer))
+      (λ r e. go r (rw e at (close-leads n h₀))) (λ s. done (s .usable .opened))
     where
-      entries-fit : h₀ .session .opened ≡ true → (m : ℕ) → m < (h₀ .session .k + 1) * g₀ .p
-          → EntryFitsAt (g₀ .p) (h₀ .session .counts) m (getD (h₀ .maps) m 0)
-      entries-fit o m l =
-          let op = kept o in
-          let some = op .stands .usable .allowed .slices-least in
-          let row : m / g₀ .p < h₀ .session .k + 1 = div-lt-iff-lt-mul some .1 l in
-          rw (div-add-mod' m (g₀ .p)) at (op .sound .whole (m / g₀ .p) (m % g₀ .p) (omega arith) (mod-lt m some))
-
-      go : (r : ℕ) → Leads (closeRules n h₀ (length tape)) (suc r) 0 → CloseDue h₀ tape (CloseResult.Refused (suc r))
+      go : (r : ℕ) → Leads (closeRules n h₀) (suc r) 0 → CloseDue h₀ (CloseResult.Refused (suc r))
       go r (here f q c) = rw q (CloseDue.shut (λ o. f (kept o .stands .usable)))
       go r (later u (here f q c)) = absurd (f (kept (live u) .stands .long))
       go r (later u (later l (here f q c))) = absurd (f (kept (live u) .stands .tables))
-      go r (later u (later l (later t (here f q c)))) = absurd (f (entries-fit (live u)))
-      go r (later u (later l (later t (later e (here lacking q c))))) = rw q (close-short (live u) lacking)
 
 -- ---- the list
 
 call-due : (first : State) (st : State) (arrays : Arrays) → Kept first arrays st → (c : Call)
     → Due arrays st (outcome st c .answer) × Kept first (arraysAfter (geometry (first .held)) arrays (outcome st c .answer)) (next st c)
 unfolding Due outcome arraysAfter patched
-call-due first st arrays kept (Reading i a room) = (read-due first st arrays kept i a room, kept)
-call-due first st arrays kept (Finding i a) = (find-due first st arrays kept i a, kept)
+call-due first st arrays kept (Reading i a room) = (read-due first st arrays (open-now kept) i a room, kept)
+call-due first st arrays kept (Finding i a) = (find-due first st arrays (open-now kept) i a, kept)
 call-due first st arrays kept (Writing i a text perm tape) =
-    (write-due first st arrays kept i a text perm tape, write-keeps first (st .device) (st .held) i a text perm tape arrays kept)
-call-due first st arrays kept (Releasing i σ perm) =
-    (release-due first st arrays kept i σ perm, release-keeps first (st .device) (st .held) i σ perm arrays kept)
-call-due first st arrays kept (Closing tape) = (close-due first st arrays kept tape, close-keeps first (st .device) (st .held) tape arrays kept)
+    (write-due first st arrays (open-now kept) i a text perm tape, write-keeps first (st .device) (st .held) i a text perm tape arrays kept)
+call-due first st arrays kept (Releasing i σ perm tape) =
+    (release-due first st arrays (open-now kept) i σ perm tape, release-keeps first (st .device) (st .held) i σ perm tape arrays kept)
+call-due first st arrays kept Closing =
+    (close-due first st arrays (open-now kept), close-keeps first (st .device) (st .held) arrays kept)
 
 pub run-due : (first : State) (cs : List Call) (st : State) (arrays : Arrays) → Kept first arrays st
     → AllDue (geometry (first .held)) arrays st cs × Kept first (arraysAfterAll (geometry (first .held)) arrays (events st cs)) (final st cs)

@@ -13,9 +13,10 @@ use Rattle.model.specs.Parts.{choose, part, Patch, patched}
 use Rattle.model.specs.Geometry.{sliceStart, sliceSize, ivStart, blockStart, Allowed}
 use Rattle.model.specs.Session.{Held, Outcome, geometry, keyOf, sliceOf, offsetOf, unmapped, unless, idle}
 use Rattle.model.specs.Read.{blockOf, ReadResult, readModel, findModel}
-use Rattle.model.specs.Write.{WriteResult, rewritten, claimed, full, claimedBytes, writeModel}
-use Rattle.model.specs.Release.{releaseModel}
-use Rattle.model.specs.Close.{mapPatches, closeModel}
+use Rattle.model.specs.Write.{WriteResult, claimNeed, rewritten, claimed, full, claimedBytes, writeModel}
+use Rattle.model.specs.Permutation.{placeOf}
+use Rattle.model.specs.Release.{released, releaseModel}
+use Rattle.model.specs.Close.{closeModel}
 use Rattle.guarantees.specs.Runs.{State, Call, Reading, Finding, Writing, Releasing, Closing, Event, Reads, Finds, Writes, Releases, Closes}
 use Rattle.guarantees.specs.Runs.{asEvent, outcome, next}
 use Rattle.guarantees.specs.Runs.{final, events, positions, left, writtenByAll, Within}
@@ -29,7 +30,7 @@ use Rattle.model.proofs.Requests.{readRefusal-none, asked-slice}
 use Rattle.guarantees.proofs.Patches.{rangesOf, patched-both, patched-written}
 use Rattle.guarantees.proofs.SoundTables.{OpenVolume}
 use Rattle.guarantees.proofs.Blocks.{deciphered-same, claimed-length}
-use Rattle.guarantees.proofs.Cases.{Stands, Asked, readRefusalOf, Writable, write-stores, release-cases, close-cases}
+use Rattle.guarantees.proofs.Cases.{Stands, Asked, readRefusalOf, Writable, Claimable, write-stores, release-cases, close-cases}
 use Rattle.guarantees.proofs.Entries.{set-entry-cases}
 use Rattle.guarantees.proofs.Releases.{released-cases}
 use Rattle.guarantees.proofs.Stored.{stores, run-patched, run-ranges}
@@ -111,8 +112,8 @@ module _ (s t : List ℕ) (h : Held) (alike : Alike (record { device = s; held =
   same-outcome (Finding i a) = ap (λ (r : List ℕ). idle h (Finds i a r)) (find-same i a)
   same-outcome (Writing i a text perm tape) =
       ap (λ (n : ℕ). asEvent (Writes i a text perm tape) (writeModel n h i a text perm tape)) (alike .long)
-  same-outcome (Releasing i σ perm) = ap (λ (n : ℕ). asEvent (Releases i σ perm) (releaseModel n h i σ perm)) (alike .long)
-  same-outcome (Closing tape) = ap (λ (n : ℕ). asEvent (Closes tape) (closeModel n h tape)) (alike .long)
+  same-outcome (Releasing i σ perm tape) = ap (λ (n : ℕ). asEvent (Releases i σ perm tape) (releaseModel n h i σ perm tape)) (alike .long)
+  same-outcome Closing = ap (λ (n : ℕ). asEvent Closes (closeModel n h)) (alike .long)
 
   -- The same outcome on both keeps them alike.
   abbrev After : {A : Type 0} → Outcome A → Type 0
@@ -135,10 +136,14 @@ module _ (s t : List ℕ) (h : Held) (alike : Alike (record { device = s; held =
             slices = λ j τ oj hτ m p lo hi. patched-both p (o .patches) s t (alike .long) (alike .slices j τ oj hτ m p lo hi);
           }
 
-      claims : Writable (length s) h i a text perm → heldEntry h i a ≡ unmapped → (ψ place : ℕ) → FreeAt h perm place → ψ < g .p
-          → getD (h .owners) ψ 0 ≡ 0 → Enough (length tape) (h .position) (g .b) → After (claimed h i (sliceOf g a) (offsetOf g a) ψ place text tape)
-      claims w un ψ place f hψ free enough = record { held = refl; long = still (o .patches); slices = slices }
+      claims : Claimable (length s) h i a text perm tape → (ψ place : ℕ) → FreeAt h perm place → ψ < g .p
+          → getD (h .owners) ψ 0 ≡ 0 → Enough (length tape) (h .position) (claimNeed g)
+          → After (claimed h i (sliceOf g a) (offsetOf g a) ψ place text tape)
+      claims c ψ place f hψ free enough = record { held = refl; long = still (o .patches); slices = slices }
         where
+          w : Writable (length s) h i a text perm
+          w = c .writable
+
           o : Outcome WriteResult
           o = claimed h i (sliceOf g a) (offsetOf g a) ψ place text tape
 
@@ -147,7 +152,8 @@ module _ (s t : List ℕ) (h : Held) (alike : Alike (record { device = s; held =
 
           whole : length (claimedBytes (g .b) (g .s) (keyOf (h .session) i) ivs (offsetOf g a) text) ≡ sliceSize g
           whole =
-              claimed-length g (keyOf (h .session) i) ivs text (offsetOf g a) (part-length tape (h .position) (g .b) enough) (w .asked .size)
+              claimed-length g (keyOf (h .session) i) ivs text (offsetOf g a) (part-length tape (h .position) (g .b) (omega (arith, enough)))
+              (w .asked .size)
 
           mine : (p : ℕ) → sliceStart g ψ ≤ p → p < sliceStart g ψ + sliceSize g → Within p (rangesOf (o .patches))
           mine p lo hi = unfold Within in inl (lo, rw whole hi)
@@ -163,27 +169,29 @@ module _ (s t : List ℕ) (h : Held) (alike : Alike (record { device = s; held =
               (asked-slice (w .stands) (w .asked .volume) (w .asked .address) .0) j τ hτ)
 
   -- After a release fewer slices are mapped.
-  release-after : (i σ : ℕ) (perm : List ℕ) → After (releaseModel (length s) h i σ perm)
+  release-after : (i σ : ℕ) (perm tape : List ℕ) → After (releaseModel (length s) h i σ perm tape)
   unfolding patched
-  release-after i σ perm =
-      release-cases (length s) h i σ perm After (λ r e. alike)
-      (λ w. record {
+  release-after i σ perm tape =
+      release-cases (length s) h i σ perm tape After (λ r e. alike)
+      (λ w. let o = released h i σ (tableEntry h i σ) (placeOf (tableEntry h i σ) perm) tape in
+      record {
         held = refl;
-        long = alike .long;
+        long = still (o .patches);
         slices = λ j τ oj hτ m p lo hi.
             ⊎-elim (λ c. absurd (omega (arith, m, c .2, w .stands .usable .allowed .slices-most)))
-            (λ c. alike .slices j τ oj hτ (rw (c .1) at m) p (rw (c .1) at lo) (rw (c .1) at hi))
-            (released-cases (length s) h i σ perm w j τ hτ);
+            (λ c. patched-both p (o .patches) s t (alike .long)
+            (alike .slices j τ oj hτ (rw (c .1) at m) p (rw (c .1) at lo) (rw (c .1) at hi)))
+            (released-cases (length s) h i σ perm tape w j τ hτ);
       })
 
   -- After a close nothing is mapped.
-  close-after : (tape : List ℕ) → After (closeModel (length s) h tape)
+  close-after : After (closeModel (length s) h)
   unfolding patched
-  close-after tape =
-      close-cases (length s) h tape After (λ r e. alike)
-      (λ st enough. record {
+  close-after =
+      close-cases (length s) h After (λ r e. alike)
+      (λ st. record {
         held = refl;
-        long = still (mapPatches h tape (h .session .k + 1));
+        long = alike .long;
         slices = λ j τ oj hτ m p lo hi.
             let inside : j * g .p + τ < 15 * g .p = digits-lt (omega (arith, st .usable .top)) hτ in
             absurd (omega (arith, m, getD-replicate (15 * g .p) (j * g .p + τ) unmapped 0 inside, st .usable .allowed .slices-most));
@@ -194,8 +202,8 @@ module _ (s t : List ℕ) (h : Held) (alike : Alike (record { device = s; held =
   after (Reading i a room) = alike
   after (Finding i a) = alike
   after (Writing i a text perm tape) = let w = write-after i a text perm tape in record { held = refl; long = w .long; slices = w .slices }
-  after (Releasing i σ perm) = let w = release-after i σ perm in record { held = refl; long = w .long; slices = w .slices }
-  after (Closing tape) = let w = close-after tape in record { held = refl; long = w .long; slices = w .slices }
+  after (Releasing i σ perm tape) = let w = release-after i σ perm tape in record { held = refl; long = w .long; slices = w .slices }
+  after Closing = record { held = refl; long = close-after .long; slices = close-after .slices }
 
 -- ---- the list
 
@@ -223,7 +231,7 @@ same-stores (c ∷ cs) st st′ al =
 
 -- And so hold equal bytes where they wrote.
 run-written : (cs : List Call) (st st′ : State) → Alike st st′
-    → (p : ℕ) → Within p (writtenByAll (geometry (st .held)) (st .held .session .k) (events st cs))
+    → (p : ℕ) → Within p (writtenByAll (geometry (st .held)) (events st cs))
     → getD (final st cs .device) p 0 ≡ getD (final st′ cs .device) p 0
 run-written cs st st′ al p w =
     ap (λ (x : List ℕ). getD x p 0) (run-patched cs st)
@@ -231,7 +239,7 @@ run-written cs st st′ al p w =
     ∙ ap (λ (x : List Patch). getD (patched x (st′ .device)) p 0) (same-stores cs st st′ al)
     ∙ sym (ap (λ (x : List ℕ). getD x p 0) (run-patched cs st′))
 
-pub run-alike : (cs : List Call) (st st′ : State) → Alike st st′ → EqualRuns (st .held .session .k) st st′ cs
+pub run-alike : (cs : List Call) (st st′ : State) → Alike st st′ → EqualRuns st st′ cs
 unfolding events positions final
 run-alike [] st st′ al =
     record { same-events = refl; same-positions = refl; same-held = al .held; written = run-written [] st st′ al }

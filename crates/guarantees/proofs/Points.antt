@@ -7,10 +7,11 @@ use native.Mathlib.Omega.{arith}
 use lib.ListN.{length, getD}
 use lib.Seq.{getD-take, getD-drop}
 use Rattle.model.specs.declared.Geometry.{Geometry}
+use Rattle.model.specs.declared.Session.{Session}
 use Rattle.model.specs.Parts.{part}
 use Rattle.model.specs.Geometry.{headerOf, sliceStart, sliceSize}
 use Rattle.model.specs.declared.Change.the-variants.{Claimed}
-use Rattle.model.specs.Session.{Held, Outcome, geometry, keyOf, blockCount, sliceOf, offsetOf}
+use Rattle.model.specs.Session.{Held, Outcome, geometry, keyOf, blockCount, entry, sliceOf, offsetOf}
 use Rattle.model.specs.Write.{WriteResult, writeModel}
 use Rattle.model.specs.Opening.{OpenOutcome, storedEntry}
 use Rattle.model.specs.Read.{deciphered}
@@ -18,13 +19,13 @@ use Rattle.guarantees.specs.Runs.{State, Call, outcome, final, events, w
 use Rattle.guarantees.specs.Arrays.{Arrays, arraysAfterAll, AllDue}
 use Rattle.guarantees.specs.Rules.{tableEntry}
 use Rattle.guarantees.specs.Openings.{AllUnlocked}
-use Rattle.guarantees.specs.Points.{Handed, Lent, opens, holds, begin, mapEntry, firstArrays, Opens, Run, Agree, EqualRuns}
+use Rattle.guarantees.specs.Points.{Handed, Lent, opens, holds, begin, mapOn, mapEntry, firstArrays, Opens, Run, Agree}
 use Rattle.guarantees.specs.Points.{Points23, NoSliceTwice}
 use Rattle.model.proofs.Requests.{asked-slice}
 use Rattle.guarantees.proofs.Opened.{holding, Served, served, served-is, openedBy, served-sound, served-stands, served-opens, served-entry}
 use Rattle.guarantees.proofs.Opened.{served-taken, served-cell, served-keys, served-same}
 use Rattle.guarantees.proofs.Cases.{write-stores}
-use Rattle.guarantees.proofs.Point2.{Open, Kept, run-due}
+use Rattle.guarantees.proofs.Point2.{Open, Kept, open-now, kept-open, run-due}
 use Rattle.guarantees.proofs.Stored.{run-stored, run-held, run-kept}
 use Rattle.guarantees.proofs.Again.{run-again}
 use Rattle.guarantees.proofs.Point3.{SameSlice, Alike, run-alike}
@@ -58,19 +59,20 @@ module _ (s : List ℕ) (x : Handed) (l : Lent) (k : ℕ) (sv : Served s x l k) 
   Begins arrays o = (j b : ℕ) → j ≤ k → b < blockCount (o .session) j → arrays j b ≡ arraysBy o j b
 
   begins : (arrays : Arrays) → Begins arrays (opens s x l) → Kept (begin s x l) arrays (begin s x l)
-  begins arrays same live =
-      subst (λ (o : OpenOutcome). Begins arrays o → Open (stateBy o) arrays (stateBy o)) (sym is)
+  begins arrays same =
+      kept-open (subst (λ (o : OpenOutcome). Begins arrays o → Open (stateBy o) arrays (stateBy o)) (sym is)
       (λ first. record {
         stands = served-stands s x l k sv;
         sound = served-sound s x l k sv;
         session = refl;
-        header = λ a n fits. refl;
+        header = λ a n fits out. refl;
+        on-device = λ i σ oi hσ. served-entry s x l k sv i σ oi hσ;
         holds = λ j b oj hb.
             first j b oj hb
             ∙ ap (λ (ψ : ℕ). deciphered g (keyOf (openedBy s x l k sv .session) j) ψ (offsetOf g b) s)
             (served-entry s x l k sv j (sliceOf g b) oj (omega (arith, asked-slice (served-stands s x l k sv) oj hb)));
       })
-      same
+      same)
 
   geometry-is : geometry (holds s x l) ≡ g
   geometry-is = ap (λ (o : OpenOutcome). o .session .geometry) is
@@ -93,15 +95,26 @@ module _ (s : List ℕ) (x : Handed) (l : Lent) (k : ℕ) (sv : Served s x l k) 
         due = r .0;
         held = run-held cs (begin s x l);
         stored = run-stored cs (begin s x l);
-        kept =
-            subst (λ (n : ℕ). KeptOutside g n) top-is
-            (subst (λ (g′ : Geometry). KeptOutside g′ (holds s x l .session .k)) geometry-is (run-kept cs (begin s x l)));
+        kept = subst KeptOutside geometry-is (run-kept cs (begin s x l));
+        on-device = λ live i σ hi hσ.
+            let op = open-now (r .1) live in
+            subst (Same i σ (opens s x l .session)) geometry-is (subst Stored (op .session) (op .on-device) i σ (rw top-is hi)) hσ;
         again = run-again s x l k sv _ _ (r .1);
       }
     where
-      KeptOutside : Geometry → ℕ → Type 0
-      KeptOutside g′ n =
-          (p : ℕ) → (Within p (writtenByAll g′ n (events (begin s x l) cs)) → ⊥) → getD (final (begin s x l) cs .device) p 0 ≡ getD s p 0
+      after : State
+      after = final (begin s x l) cs
+
+      -- An entry on the device is that of the table, and so is each of the open volumes.
+      Same : (i σ : ℕ) → Session → Geometry → Type 0
+      Same i σ c g′ = σ < g′ .p → mapOn (after .device) g′ c i σ ≡ entry (after .held .maps) g′ i σ
+
+      Stored : Session → Type 0
+      Stored c = (i σ : ℕ) → i ≤ c .k → Same i σ c (c .geometry)
+
+      KeptOutside : Geometry → Type 0
+      KeptOutside g′ =
+          (p : ℕ) → (Within p (writtenByAll g′ (events (begin s x l) cs)) → ⊥) → getD (final (begin s x l) cs .device) p 0 ≡ getD s p 0
 
 -- ---- two devices
 
@@ -166,8 +179,7 @@ points23 s x l k e =
           let b = second s t x l l′ k sv ag ml ol in (
             ap (λ (o : OpenOutcome). o .answer) (served-is t x l′ k (b .0)),
             λ cs. (
-              subst (λ (n : ℕ). EqualRuns n (begin s x l) (begin t x l′) cs) (top-is s x l k sv)
-                  (run-alike cs (begin s x l) (begin t x l′) (alike s t x l l′ k sv ag ml ol)),
+              run-alike cs (begin s x l) (begin t x l′) (alike s t x l l′ k sv ag ml ol),
               run t x l′ k (b .0) cs,
             ),
           );
@@ -184,7 +196,7 @@ claim-free n h i a text perm tape ψ probes =
     (λ number count ne e. let z : _≡_ {A = ℕ} 0 1 = cc in absurd (omega arith))
     (λ w e. let z : _≡_ {A = ℕ} 0 1 = cc in absurd (omega arith))
     (λ w l enough e. let z : _≡_ {A = ℕ} 0 1 = cc in absurd (omega arith))
-    (λ w u φ place f hφ free enough e. let q : φ ≡ ψ = cc in (w .stands .usable .opened, rw q at hφ, rw q at free))
+    (λ c φ place f hφ free enough e. let q : φ ≡ ψ = cc in (c .writable .stands .usable .opened, rw q at hφ, rw q at free))
   where
     Free : Type 0
     Free = (h .session .opened ≡ true) × (ψ < geometry h .p) × (getD (h .owners) ψ 0 ≡ 0)
@@ -195,8 +207,8 @@ no-slice-twice s x l k e cs =
     let u = final (begin s x l) cs in
     let kept = begins-due s x l k (served s x l k e) (firstArrays s x l) (λ j b hj hb. refl) cs .1 in
     record {
-      apart = λ live. kept live .sound .apart;
+      apart = λ live. open-now kept live .sound .apart;
       fresh = λ i a text perm tape ψ probes w j hj m.
           let f = claim-free (length (u .device)) (u .held) i a text perm tape ψ probes (cc) in
-          omega (arith, kept (f .0) .sound .apart .owner j ψ hj (f .1) m, f .2);
+          omega (arith, open-now kept (f .0) .sound .apart .owner j ψ hj (f .1) m, f .2);
     }

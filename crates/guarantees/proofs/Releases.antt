@@ -17,16 +17,16 @@ use Rattle.guarantees.proofs.SoundTables.{SoundTables, OpenVolume}
 use Rattle.guarantees.proofs.Cases.{Stands, stands-at, Releasable}
 use Rattle.guarantees.proofs.Entries.{set-slice, set-entry-cases}
 
-module _ (n : ℕ) (h : Held) (i σ : ℕ) (perm : List ℕ) (w : Releasable n h i σ perm) where
+module _ (n : ℕ) (h : Held) (i σ : ℕ) (perm tape : List ℕ) (w : Releasable n h i σ perm tape) where
   abbrev ψ : ℕ
   ψ = tableEntry h i σ
 
   abbrev h′ : Held
-  h′ = released h i σ ψ (placeOf ψ perm) .held
+  h′ = released h i σ ψ (placeOf ψ perm) tape .held
 
-  pub released-stands : Stands n h′
-  released-stands =
-      stands-at h h′ (w .stands) (le-trans (min-le-left (h .session .start) (placeOf ψ perm)) (w .stands .usable .place)) refl refl
+  pub released-stands : {m : ℕ} → m ≡ n → Stands m h′
+  released-stands long =
+      stands-at h h′ (w .stands) (le-trans (min-le-left (h .session .start) (placeOf ψ perm)) (w .stands .usable .place)) refl long
       (length-set (h .maps) _ unmapped) (length-set (h .owners) ψ 0)
 
   -- A slice's number is not the mark.

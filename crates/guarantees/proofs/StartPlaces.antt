@@ -1,11 +1,11 @@
 -- The start place: what a write and a release set it to, that no free slice stands before it, and the bound. Assumes nothing.
-use Prim.Native.Nat.{ℕ, zero, suc, _+_, _*_, _≤_, _<_, min}
+use Prim.Native.Nat.{ℕ, zero, suc, _+_, _*_, _≤_, _<_}
 use mathlib.Core.Path.{_≡_, refl, sym, ap, _∙_, subst}
 use mathlib.Core.List.{List, [], _∷_}
 use mathlib.Core.Bool.{Bool, true, false, _||_}
 use mathlib.Core.Logic.{_⊎_, inl, inr, ⊎-elim}
 use native.Mathlib.Omega.{arith}
-use native.Mathlib.Nat.{le-refl, min-le-left, min-le-right, min-eq-left, min-eq-right}
+use native.Mathlib.Nat.{le-refl, min-le-left, min-le-right}
 use lib.ListN.{length, getD, set}
 use lib.Seq.{getD-set-same, getD-set-other}
 use lib.Dec.{ltb, eqb}
@@ -18,7 +18,8 @@ use Rattle.model.specs.Session.{Held, Outcome, geometry, entryOf, sliceOf, offs
 use Rattle.model.specs.Conditions.{AllHeld, sliceAt}
 use Rattle.model.specs.Search.{firstFree}
 use Rattle.model.specs.Opening.{OpenOutcome}
-use Rattle.model.specs.Write.{WriteResult, rewriteOutcome, claimOutcome, writeRefusal, writeModel}
+use Rattle.model.specs.Write.{claimNeed, WriteResult, rewriteOutcome, claimOutcome, writeRefusal, writeModel}
+use Rattle.model.specs.Maps.{badInBlock}
 use Rattle.model.specs.Permutation.{placeOf}
 use Rattle.model.specs.Release.{ReleaseResult, releaseModel}
 use Rattle.model.specs.Close.{CloseResult, closeModel}
@@ -28,7 +29,7 @@ use Rattle.guarantees.specs.Rules.{FreeAt, probesAt, tableEntry}
 use Rattle.guarantees.specs.Points.{Handed, Lent, opens, holds, begin}
 use Rattle.guarantees.specs.StartPlaces.{Sets, Lowers, NoneBefore, fromFirst, SameWrite, OnePermutation, counted, countedAll}
 use Rattle.guarantees.specs.StartPlaces.{releasing, releasesIn, Bounded, StartPlaces}
-use Rattle.model.proofs.Tests.{equal, below}
+use Rattle.model.proofs.Tests.{equal, below, min-cases}
 use Rattle.model.proofs.Requests.{writeRefusal-none}
 use Rattle.model.proofs.Searches.{firstFree-skips}
 use Rattle.guarantees.proofs.Cases.{early-not-22, write-cases, Releasable, release-cases, close-cases}
@@ -49,10 +50,11 @@ write-sets n h i a text perm tape =
       claim = λ ψ probes e. let z : _≡_ {A = ℕ} 0 1 = cc in absurd (omega arith);
       full = λ probes e. let z : _≡_ {A = ℕ} 0 1 = cc in absurd (omega arith);
     })
-    (λ w u place f. none 5 (probesAt h place) (omega arith))
-    (λ w u f. record { claim = λ ψ probes e. let z : _≡_ {A = ℕ} 0 1 = cc in absurd (omega arith); full = λ probes e. refl })
-    (λ w u place f s. none 21 (probesAt h place) (omega arith))
-    (λ w u ψ place f q s. record {
+    (λ w u f. none 9 0 (omega arith))
+    (λ c place f. none 5 (probesAt h place) (omega arith))
+    (λ c f. record { claim = λ ψ probes e. let z : _≡_ {A = ℕ} 0 1 = cc in absurd (omega arith); full = λ probes e. refl })
+    (λ c place f s. none 21 (probesAt h place) (omega arith))
+    (λ c ψ place f q s. record {
       claim = λ φ probes e. let same : ψ ≡ φ = cc in (place, f, q ∙ same, refl);
       full = λ probes e. let z : _≡_ {A = ℕ} 0 1 = cc in absurd (omega arith);
     })
@@ -66,13 +68,9 @@ write-sets n h i a text perm tape =
 
 -- ---- what a release sets it to
 
--- The lower of two numbers is one of them.
-min-cases : (m n : ℕ) → ((m ≤ n) × (min m n ≡ m)) ⊎ ((n ≤ m) × (min m n ≡ n))
-min-cases m n = ⊎-elim (λ l. let k : m ≤ n = omega (arith, l) in inl (k, min-eq-left k)) (λ l. inr (l, min-eq-right l)) (below m n)
-
-release-lowers : (n : ℕ) (h : Held) (i σ : ℕ) (perm : List ℕ) → Lowers h perm (releaseModel n h i σ perm)
-release-lowers n h i σ perm =
-    release-cases n h i σ perm (Lowers h perm)
+release-lowers : (n : ℕ) (h : Held) (i σ : ℕ) (perm tape : List ℕ) → Lowers h perm (releaseModel n h i σ perm tape)
+release-lowers n h i σ perm tape =
+    release-cases n h i σ perm tape (Lowers h perm)
     (λ r e ψ q. let z : _≡_ {A = ℕ} 0 1 = cc in absurd (omega arith))
     (λ w ψ q. let same : tableEntry h i σ ≡ ψ = cc in
     (placeOf (tableEntry h i σ) perm, w .place .inside, w .place .is ∙ same, min-cases (h .session .start) _))
@@ -102,26 +100,31 @@ moves st (Writing i a text perm tape) =
     (λ r e. stays refl refl (choose-same (eqb (suc r) 5 || eqb (suc r) 21) 0) refl)
     (λ w l s. stays refl refl refl refl)
     (λ w l s. stays refl refl refl refl)
-    (λ w u place f. stays refl refl refl refl)
-    (λ w u f. record { adds = inl (refl, omega (arith, w .stands .usable .place)); inside = λ l. le-refl (geometry h .p); geo = refl })
-    (λ w u place f s. stays refl refl refl refl)
-    (λ w u ψ place f q s. record {
-      adds = inl (refl, omega (arith, f .from));
-      inside = λ l. omega (arith, f .inside, w .places);
+    (λ w u f. stays refl refl refl refl)
+    (λ c place f. stays refl refl refl refl)
+    (λ c f. record {
+      adds = inl (refl, omega (arith, c .writable .stands .usable .place));
+      inside = λ l. le-refl (geometry h .p);
       geo = refl;
     })
-moves st (Releasing i σ perm) =
+    (λ c place f s. stays refl refl refl refl)
+    (λ c ψ place f q s. record {
+      adds = inl (refl, omega (arith, f .from));
+      inside = λ l. omega (arith, f .inside, c .writable .places);
+      geo = refl;
+    })
+moves st (Releasing i σ perm tape) =
     let h = st .held in
-    release-cases (length (st .device)) h i σ perm (λ (o : Outcome ReleaseResult). Moves h (asEvent (Releases i σ perm) o))
+    release-cases (length (st .device)) h i σ perm tape (λ (o : Outcome ReleaseResult). Moves h (asEvent (Releases i σ perm tape) o))
     (λ r e. stays refl refl refl refl)
     (λ w. record {
       adds = inr (refl, refl);
       inside = λ l. omega (arith, l, min-le-left (h .session .start) (placeOf (tableEntry h i σ) perm));
       geo = refl;
     })
-moves st (Closing tape) =
-    close-cases (length (st .device)) (st .held) tape (λ (o : Outcome CloseResult). Moves (st .held) (asEvent (Closes tape) o))
-    (λ r e. stays refl refl refl refl) (λ s enough. stays refl refl refl refl)
+moves st Closing =
+    close-cases (length (st .device)) (st .held) (λ (o : Outcome CloseResult). Moves (st .held) (asEvent Closes o))
+    (λ r e. stays refl refl refl refl) (λ s. stays refl refl refl refl)
 
 -- ---- the bound: the list
 
@@ -184,27 +187,27 @@ module _ (h : Held) (perm : List ℕ) (passed : NoneBefore h perm) where
 write-none : (n : ℕ) (h : Held) (i a : ℕ) (text perm tape : List ℕ) → WhileOpen perm h → WhileOpen perm (writeModel n h i a text perm tape .held)
 write-none n h i a text perm tape passed =
     write-cases n h i a text perm tape (λ (o : Outcome WriteResult). WhileOpen perm (o .held))
-    (λ r e. passed) (λ w l s. passed) (λ w l s. passed) (λ w u place f. passed)
-    (λ w u f live m from l. ⊎-elim (λ b. passed live m from b) (λ b. f m b (omega (arith, l, w .places))) (below m (h .session .start)))
-    (λ w u place f s. passed)
-    (λ w u ψ place f q s live. claimed-held h perm (passed live) i ψ place (w .stands .tables .1) f q)
+    (λ r e. passed) (λ w l s. passed) (λ w l s. passed) (λ w u f. passed) (λ c place f. passed)
+    (λ c f live m from l. ⊎-elim (λ b. passed live m from b) (λ b. f m b (omega (arith, l, c .writable .places))) (below m (h .session .start)))
+    (λ c place f s. passed)
+    (λ c ψ place f q s live. claimed-held h perm (passed live) i ψ place (c .writable .stands .tables .1) f q)
 
-close-none : (n : ℕ) (h : Held) (perm tape : List ℕ) → WhileOpen perm h → WhileOpen perm (closeModel n h tape .held)
-close-none n h perm tape passed =
-    close-cases n h tape (λ (o : Outcome CloseResult). WhileOpen perm (o .held)) (λ r e. passed)
-    (λ s enough live. let z : _≡_ {A = ℕ} 0 1 = cc in absurd (omega arith))
+close-none : (n : ℕ) (h : Held) (perm : List ℕ) → WhileOpen perm h → WhileOpen perm (closeModel n h .held)
+close-none n h perm passed =
+    close-cases n h (λ (o : Outcome CloseResult). WhileOpen perm (o .held)) (λ r e. passed)
+    (λ s live. let z : _≡_ {A = ℕ} 0 1 = cc in absurd (omega arith))
 
 -- Before the lower of the start place and the place of the slice freed every slice is another one, and stays held.
-release-none : (n : ℕ) (h : Held) (i σ : ℕ) (perm : List ℕ) → WhileOpen perm h → WhileOpen perm (releaseModel n h i σ perm .held)
-release-none n h i σ perm passed =
-    release-cases n h i σ perm (λ (o : Outcome ReleaseResult). WhileOpen perm (o .held)) (λ r e. passed)
+release-none : (n : ℕ) (h : Held) (i σ : ℕ) (perm tape : List ℕ) → WhileOpen perm h → WhileOpen perm (releaseModel n h i σ perm tape .held)
+release-none n h i σ perm tape passed =
+    release-cases n h i σ perm tape (λ (o : Outcome ReleaseResult). WhileOpen perm (o .held)) (λ r e. passed)
     (λ w live m from l.
     let place = placeOf (tableEntry h i σ) perm in
     let start = h .session .start in
     let old = passed live m from (omega (arith, l, min-le-left start place)) in
     let other : sliceAt perm m ≡ tableEntry h i σ → ⊥ =
     λ e. omega (arith, w .place .first m (omega (arith, l, min-le-right start place, w .place .inside)) e, l, min-le-right start place) in
-    (old .0, λ z. old .1 (sym (released-owner n h i σ perm w (sliceAt perm m) other) ∙ z)))
+    (old .0, λ z. old .1 (sym (released-owner n h i σ perm tape w (sliceAt perm m) other) ∙ z)))
 
 run-none : (perm : List ℕ) (cs : List Call) (st : State) → OnePermutation perm cs → WhileOpen perm (st .held) → WhileOpen perm (final st cs .held)
 unfolding final outcome OnePermutation
@@ -215,11 +218,11 @@ run-none perm (Writing i a text other tape ∷ cs) st k passed =
     run-none perm cs _ (k .1)
     (subst (λ (p : List ℕ). WhileOpen perm (writeModel (length (st .device)) (st .held) i a text p tape .held)) (sym (k .0))
     (write-none (length (st .device)) (st .held) i a text perm tape passed))
-run-none perm (Releasing i σ other ∷ cs) st k passed =
+run-none perm (Releasing i σ other tape ∷ cs) st k passed =
     run-none perm cs _ (k .1)
-    (subst (λ (p : List ℕ). WhileOpen perm (releaseModel (length (st .device)) (st .held) i σ p .held)) (sym (k .0))
-    (release-none (length (st .device)) (st .held) i σ perm passed))
-run-none perm (Closing tape ∷ cs) st k passed = run-none perm cs _ k (close-none (length (st .device)) (st .held) perm tape passed)
+    (subst (λ (p : List ℕ). WhileOpen perm (releaseModel (length (st .device)) (st .held) i σ p tape .held)) (sym (k .0))
+    (release-none (length (st .device)) (st .held) i σ perm tape passed))
+run-none perm (Closing ∷ cs) st k passed = run-none perm cs _ k (close-none (length (st .device)) (st .held) perm passed)
 
 -- ---- a write does what it would have done from place 0 on
 
@@ -259,7 +262,7 @@ module _ (n : ℕ) (h : Held) (i a : ℕ) (text perm tape : List ℕ) (inside : 
   claim-same (Bad place) = refused-same 5 _ _
   claim-same Full = record { answered = refl; stored = refl; mapped = refl; owned = refl; moved = refl; handed = refl }
   claim-same (Free ψ place) =
-      same-choose (short (length tape) (h .position) (geometry h .b)) (refused-same 21 _ _)
+      same-choose (short (length tape) (h .position) (claimNeed (geometry h))) (refused-same 21 _ _)
       (record { answered = refl; stored = refl; mapped = refl; owned = refl; moved = refl; handed = refl })
 
   rewrite-same : (ψ j : ℕ) → SameWrite (rewriteOutcome h i ψ j text tape) (rewriteOutcome h₀ i ψ j text tape)
@@ -268,15 +271,16 @@ module _ (n : ℕ) (h : Held) (i a : ℕ) (text perm tape : List ℕ) (inside : 
       (record { answered = refl; stored = refl; mapped = refl; owned = refl; moved = refl; handed = refl })
 
   write-same : SameWrite (writeModel n h i a text perm tape) (writeModel n h₀ i a text perm tape)
-  unfolding writeModel
+  unfolding writeModel badInBlock
   write-same =
       same-unless same-refusal (λ r. refused-same r 0 0)
       (λ e. let w = writeRefusal-none n (h .maps) (h .owners) (h .session) i a (length text) (length perm) e in
       same-choose (ltb (entryOf (h .maps) (geometry h) i a) (geometry h .p))
       (rewrite-same (entryOf (h .maps) (geometry h) i a) (offsetOf (geometry h) a))
+      (same-choose (badInBlock (h .maps) (h .session) i (sliceOf (geometry h) a)) (refused-same 9 0 0)
       (subst (λ (s : Search). SameWrite (claims h s) (claims h₀ first))
       (firstFree-skips (h .owners) (geometry h .p) perm 0 (h .session .start) (omega arith) (omega (arith, inside, w .places)) before)
-      (claim-same first)))
+      (claim-same first))))
     where
       first : Search
       first = firstFree (h .owners) (geometry h .p) 0 perm

@@ -9,7 +9,7 @@ use lib.ListN.{length, getD, set, replicate, getD-replicate, length-replicate, l
 use lib.Seq.{getD-set-same, getD-set-other}
 use Rattle.model.specs.Geometry.{countIn}
 use Rattle.model.specs.Session.{unmapped}
-use Rattle.model.specs.Conditions.{BelowCount, EntryFitsAt}
+use Rattle.model.specs.Conditions.{BelowCount}
 use Rattle.model.specs.Opening.{Loaded, Tables, Spoilt, settle, load}
 use Rattle.model.proofs.Tests.{equal}
 use Rattle.guarantees.specs.Openings.{GoodEntries}
@@ -21,7 +21,7 @@ pub record Holds (p : ℕ) (counts : List ℕ) (e : ℕ → ℕ) (n : ℕ) (maps
   pub owners-long : length owners ≡ p
   pub has : (m : ℕ) → m < n → getD maps m 0 ≡ e m
   pub rest : (m : ℕ) → n ≤ m → m < 15 * p → getD maps m 0 ≡ unmapped
-  pub whole : (m : ℕ) → m < 15 * p → EntryFitsAt p counts m (getD maps m 0)
+  pub whole : (m : ℕ) → m < 15 * p → (getD maps m 0 ≡ unmapped) ⊎ ((getD maps m 0 < p) × BelowCount p counts m)
   pub once : (m n : ℕ) → m < 15 * p → n < 15 * p → getD maps m 0 < p → getD maps m 0 ≡ getD maps n 0 → m ≡ n
   pub owns : (m : ℕ) → m < 15 * p → getD maps m 0 < p → getD owners (getD maps m 0) 0 ≡ m / p + 1
   pub used : (x : ℕ) → x < p → (getD owners x 0 ≡ 0 → ⊥) → (m : ℕ) × (m < n) × (getD maps m 0 ≡ x)

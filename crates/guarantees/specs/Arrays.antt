@@ -1,6 +1,6 @@
 -- Point 2, call by call: each open volume is an array of blocks, and each request has the answer that it is
 -- due; volume i has N × S blocks (document 02, P4), and those of a released logical slice are zeros (document 02, P5). Assumes nothing.
-use Prim.Native.Nat.{ℕ, _*_, _≤_, _<_}
+use Prim.Native.Nat.{ℕ, _+_, _*_, _≤_, _<_}
 use mathlib.Core.Path.{_≡_}
 use mathlib.Core.List.{List, [], _∷_}
 use mathlib.Core.Bool.{true, _&&_}
@@ -17,7 +17,6 @@ use Rattle.model.specs.Close.{CloseResult}
 use Rattle.guarantees.specs.Runs.{State, Call, Event, Reads, Finds, Writes, Releases, Closes, outcome, next}
 use Rattle.model.specs.Conditions.{Enough, Names, sliceAt}
 use Rattle.guarantees.specs.Rules.{heldEntry, tableEntry, blockIn, FreeAt, BadAt, NoneFree, probesAt, allProbes}
-use Rattle.guarantees.specs.Effects.{closeBytes}
 
 -- Block a of volume i.
 abbrev pub Arrays : Type 0
@@ -35,11 +34,11 @@ cleared g arrays i σ j b = choose (eqb j i && eqb (sliceOf g b) σ) (replicate 
 unfoldable pub arraysAfter : Geometry → Arrays → Event → Arrays
 arraysAfter g arrays (Writes i a text perm tape (WriteResult.Served change probes)) = put arrays i a text
 arraysAfter g arrays (Writes i a text perm tape (WriteResult.Refused n probes)) = arrays
-arraysAfter g arrays (Releases i σ perm (ReleaseResult.Freed ψ)) = cleared g arrays i σ
-arraysAfter g arrays (Releases i σ perm (ReleaseResult.Refused n)) = arrays
+arraysAfter g arrays (Releases i σ perm tape (ReleaseResult.Freed ψ)) = cleared g arrays i σ
+arraysAfter g arrays (Releases i σ perm tape (ReleaseResult.Refused n)) = arrays
 arraysAfter g arrays (Reads i a room r) = arrays
 arraysAfter g arrays (Finds i a bytes) = arrays
-arraysAfter g arrays (Closes tape r) = arrays
+arraysAfter g arrays (Closes r) = arrays
 
 unfoldable pub arraysAfterAll : Geometry → Arrays → List Event → Arrays
 arraysAfterAll g arrays [] = arrays
@@ -85,10 +84,10 @@ pub data WriteDue (h : Held) (i a : ℕ) (text perm tape : List ℕ) : WriteResu
   rewrite-short : Fits h (length perm) i a (length text) → heldEntry h i a < geometry h .p → (Enough (length tape) (h .position) 16 → ⊥)
       → WriteDue h i a text perm tape (WriteResult.Refused 21 0)
   claimed : Fits h (length perm) i a (length text) → heldEntry h i a ≡ unmapped → (n : ℕ) → FreeAt h perm n
-      → Enough (length tape) (h .position) (geometry h .b)
+      → Enough (length tape) (h .position) (geometry h .b + 16)
       → WriteDue h i a text perm tape (WriteResult.Served (Claimed (sliceAt perm n)) (probesAt h n))
   claim-short : Fits h (length perm) i a (length text) → heldEntry h i a ≡ unmapped → (n : ℕ) → FreeAt h perm n
-      → (Enough (length tape) (h .position) (geometry h .b) → ⊥)
+      → (Enough (length tape) (h .position) (geometry h .b + 16) → ⊥)
       → WriteDue h i a text perm tape (WriteResult.Refused 21 (probesAt h n))
   no-slice : Fits h (length perm) i a (length text) → heldEntry h i a ≡ unmapped → (n : ℕ) → BadAt h perm n
       → WriteDue h i a text perm tape (WriteResult.Refused 5 (probesAt h n))
@@ -97,30 +96,32 @@ pub data WriteDue (h : Held) (i a : ℕ) (text perm tape : List ℕ) : WriteResu
   refused : (r : ℕ) → Unfit h (length perm) i a (length text) r → WriteDue h i a text perm tape (WriteResult.Refused r 0)
 
 -- A release of a mapped logical slice of an open volume is served with the slice that its entry names; what is wrong first decides the
--- refusal (document 02, P5).
-pub data ReleaseDue (h : Held) (i σ : ℕ) (perm : List ℕ) : ReleaseResult → Type 0 where
+-- refusal, and last the tape is short (21; document 02, P5 and P7).
+pub data ReleaseDue (h : Held) (i σ : ℕ) (perm tape : List ℕ) : ReleaseResult → Type 0 where
   freed : h .session .opened ≡ true → Names (geometry h .p) perm → i ≤ h .session .k → σ < countOf (h .session) i
-      → tableEntry h i σ < geometry h .p → ReleaseDue h i σ perm (ReleaseResult.Freed (tableEntry h i σ))
-  shut : (h .session .opened ≡ true → ⊥) → ReleaseDue h i σ perm (ReleaseResult.Refused 20)
-  places : h .session .opened ≡ true → (Names (geometry h .p) perm → ⊥) → ReleaseDue h i σ perm (ReleaseResult.Refused 5)
-  volume : h .session .opened ≡ true → Names (geometry h .p) perm → h .session .k < i → ReleaseDue h i σ perm (ReleaseResult.Refused 11)
+      → tableEntry h i σ < geometry h .p → Enough (length tape) (h .position) 16
+      → ReleaseDue h i σ perm tape (ReleaseResult.Freed (tableEntry h i σ))
+  shut : (h .session .opened ≡ true → ⊥) → ReleaseDue h i σ perm tape (ReleaseResult.Refused 20)
+  places : h .session .opened ≡ true → (Names (geometry h .p) perm → ⊥) → ReleaseDue h i σ perm tape (ReleaseResult.Refused 5)
+  volume : h .session .opened ≡ true → Names (geometry h .p) perm → h .session .k < i → ReleaseDue h i σ perm tape (ReleaseResult.Refused 11)
   slice : h .session .opened ≡ true → Names (geometry h .p) perm → i ≤ h .session .k → countOf (h .session) i ≤ σ
-      → ReleaseDue h i σ perm (ReleaseResult.Refused 12)
+      → ReleaseDue h i σ perm tape (ReleaseResult.Refused 12)
   none : h .session .opened ≡ true → Names (geometry h .p) perm → i ≤ h .session .k → σ < countOf (h .session) i
-      → tableEntry h i σ ≡ unmapped → ReleaseDue h i σ perm (ReleaseResult.Refused 25)
+      → tableEntry h i σ ≡ unmapped → ReleaseDue h i σ perm tape (ReleaseResult.Refused 25)
+  release-short : h .session .opened ≡ true → Names (geometry h .p) perm → i ≤ h .session .k → σ < countOf (h .session) i
+      → tableEntry h i σ < geometry h .p → (Enough (length tape) (h .position) 16 → ⊥) → ReleaseDue h i σ perm tape (ReleaseResult.Refused 21)
 
--- A close of an open session is served but where the tape is short (21).
-pub data CloseDue (h : Held) (tape : List ℕ) : CloseResult → Type 0 where
-  done : h .session .opened ≡ true → Enough (length tape) (h .position) (closeBytes h) → CloseDue h tape CloseResult.Closed
-  close-short : h .session .opened ≡ true → (Enough (length tape) (h .position) (closeBytes h) → ⊥) → CloseDue h tape (CloseResult.Refused 21)
-  shut : (h .session .opened ≡ true → ⊥) → CloseDue h tape (CloseResult.Refused 20)
+-- A close of an open session is served.
+pub data CloseDue (h : Held) : CloseResult → Type 0 where
+  done : h .session .opened ≡ true → CloseDue h CloseResult.Closed
+  shut : (h .session .opened ≡ true → ⊥) → CloseDue h (CloseResult.Refused 20)
 
 unfoldable pub Due : Arrays → State → Event → Type 0
 Due arrays st (Reads i a room r) = ReadDue arrays (st .held) i a room r
 Due arrays st (Finds i a bytes) = FindDue (st .device) (st .held) i a bytes
 Due arrays st (Writes i a text perm tape r) = WriteDue (st .held) i a text perm tape r
-Due arrays st (Releases i σ perm r) = ReleaseDue (st .held) i σ perm r
-Due arrays st (Closes tape r) = CloseDue (st .held) tape r
+Due arrays st (Releases i σ perm tape r) = ReleaseDue (st .held) i σ perm tape r
+Due arrays st (Closes r) = CloseDue (st .held) r
 
 -- Every answer of the list is due, by the arrays as the calls before left them.
 unfoldable pub AllDue : Geometry → Arrays → State → List Call → Type 0

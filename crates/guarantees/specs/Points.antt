@@ -20,7 +20,7 @@ use Rattle.model.specs.Release.{ReleaseResult, releaseModel}
 use Rattle.model.specs.Close.{CloseResult, closeModel}
 use Rattle.model.specs.Format.{formatModel}
 use Rattle.model.specs.Shuffle.{shuffleModel}
-use Rattle.guarantees.specs.Runs.{State, Call, Writing, Closing, Writes, Closes, outcome, next, final, events, positions, writtenByAll, Within}
+use Rattle.guarantees.specs.Runs.{State, Call, Writing, Writes, outcome, final, events, positions, writtenByAll, Within}
 use Rattle.guarantees.specs.Rules.{First, readRules, writeRules, releaseRules, closeRules, formatTape, shuffleRules, SearchEnds, FreeAt, probesAt}
 use Rattle.guarantees.specs.Rules.{heldEntry, tableEntry, ivIn, blockIn}
 use Rattle.guarantees.specs.Openings.{Lowest, Unlocked, OpenAnswered}
@@ -64,14 +64,16 @@ pub data WriteAnswered (device : ℕ) (h : Held) (i a : ℕ) (text perm tape : L
       → First (writeRules device h i a text perm tape place) n probes → WriteAnswered device h i a text perm tape (WriteResult.Refused n probes)
 
 -- A release is served with the slice that the entry names, or refused by the first rule that applies.
-pub data ReleaseAnswered (device : ℕ) (h : Held) (i σ : ℕ) (perm : List ℕ) : ReleaseResult → Type 0 where
-  served : First (releaseRules device h i σ perm) 0 0 → ReleaseAnswered device h i σ perm (ReleaseResult.Freed (tableEntry h i σ))
-  refused : (n : ℕ) → (n ≡ 0 → ⊥) → First (releaseRules device h i σ perm) n 0 → ReleaseAnswered device h i σ perm (ReleaseResult.Refused n)
+pub data ReleaseAnswered (device : ℕ) (h : Held) (i σ : ℕ) (perm tape : List ℕ) : ReleaseResult → Type 0 where
+  served : First (releaseRules device h i σ perm (length tape)) 0 0
+      → ReleaseAnswered device h i σ perm tape (ReleaseResult.Freed (tableEntry h i σ))
+  refused : (n : ℕ) → (n ≡ 0 → ⊥) → First (releaseRules device h i σ perm (length tape)) n 0
+      → ReleaseAnswered device h i σ perm tape (ReleaseResult.Refused n)
 
 -- A close is served, or refused by the first rule that applies.
-pub data CloseAnswered (device : ℕ) (h : Held) (tape : List ℕ) : CloseResult → Type 0 where
-  served : First (closeRules device h (length tape)) 0 0 → CloseAnswered device h tape CloseResult.Closed
-  refused : (n : ℕ) → (n ≡ 0 → ⊥) → First (closeRules device h (length tape)) n 0 → CloseAnswered device h tape (CloseResult.Refused n)
+pub data CloseAnswered (device : ℕ) (h : Held) : CloseResult → Type 0 where
+  served : First (closeRules device h) 0 0 → CloseAnswered device h CloseResult.Closed
+  refused : (n : ℕ) → (n ≡ 0 → ⊥) → First (closeRules device h) n 0 → CloseAnswered device h (CloseResult.Refused n)
 
 -- A shuffle of a list of so many places is served with the ordering that its accepted draws make of the slices 0 to P - 1, and the
 -- position after the last byte of them, or refused by the first rule that applies. Draws that are thrown away have no other influence.
@@ -91,9 +93,9 @@ pub record Point1 : Type 0 where
       → FindAnswered device maps owners s i a (findModel device maps owners s i a)
   pub writes : (device : ℕ) (h : Held) (i a : ℕ) (text perm tape : List ℕ)
       → WriteAnswered device h i a text perm tape (writeModel device h i a text perm tape .answer)
-  pub releases : (device : ℕ) (h : Held) (i σ : ℕ) (perm : List ℕ)
-      → ReleaseAnswered device h i σ perm (releaseModel device h i σ perm .answer)
-  pub closes : (device : ℕ) (h : Held) (tape : List ℕ) → CloseAnswered device h tape (closeModel device h tape .answer)
+  pub releases : (device : ℕ) (h : Held) (i σ : ℕ) (perm tape : List ℕ)
+      → ReleaseAnswered device h i σ perm tape (releaseModel device h i σ perm tape .answer)
+  pub closes : (device : ℕ) (h : Held) → CloseAnswered device h (closeModel device h .answer)
   pub formats : (device : ℕ) (g : Geometry) (n : ℕ) (keys counts tape : List ℕ) (position : ℕ)
       → FormatAnswered device g n keys counts tape position (formatModel device g n keys counts tape position)
   pub shuffles : (g : Geometry) (list : ℕ) (tape : List ℕ) (position : ℕ)
@@ -128,9 +130,13 @@ begin device x l = record { device = device; held = holds device x l }
 
 -- ---- what stands on the device
 
--- Entry σ of header i's map, deciphered under the VEK that the session holds.
+-- Entry σ of header i's map on a device, deciphered under the VEK that a session holds.
+abbrev pub mapOn : List ℕ → Geometry → Session → (i σ : ℕ) → ℕ
+mapOn device g s i σ = storedEntry g (keyOf s i) (headerOf g device i) σ
+
+-- The same under the VEK of the session that an opening of the device gives.
 abbrev pub mapEntry : List ℕ → Handed → Lent → (i σ : ℕ) → ℕ
-mapEntry device x l i σ = storedEntry (x .geometry) (keyOf (opens device x l .session) i) (headerOf (x .geometry) device i) σ
+mapEntry device x l i σ = mapOn device (x .geometry) (opens device x l .session) i σ
 
 -- At first each block is what the volume's map and slices decipher to, zeros where unmapped.
 abbrev pub firstArrays : List ℕ → Handed → Lent → Arrays
@@ -177,13 +183,17 @@ pub record Run (s : List ℕ) (x : Handed) (l : Lent) (k : ℕ) (cs : List Call)
   pub held : final (begin s x l) cs .held ≡ heldAfterAll (holds s x l) (events (begin s x l) cs)
   -- The device is the first one with what the calls store in order, and is its own but for the written places.
   pub stored : final (begin s x l) cs .device ≡ patched (storedByAll (holds s x l) (events (begin s x l) cs)) s
-  pub kept : (p : ℕ) → (Within p (writtenByAll (x .geometry) k (events (begin s x l) cs)) → ⊥)
+  pub kept : (p : ℕ) → (Within p (writtenByAll (x .geometry) (events (begin s x l) cs)) → ⊥)
       → getD (final (begin s x l) cs .device) p 0 ≡ getD s p 0
-  -- Closed and opened again with the same key, any permutation that names each slice and any tables: the same counts and arrays.
-  pub again : (tape : List ℕ) → outcome (final (begin s x l) cs) (Closing tape) .answer ≡ Closes tape CloseResult.Closed
-      → (y : Handed) (l′ : Lent) → y .geometry ≡ x .geometry → y .key ≡ x .key
+  -- While the session is open the maps on the device, deciphered under the VEKs, are the maps held (document 02, P7).
+  pub on-device : final (begin s x l) cs .held .session .opened ≡ true → (i σ : ℕ) → i ≤ k → σ < x .geometry .p
+      → mapOn (final (begin s x l) cs .device) (x .geometry) (opens s x l .session) i σ
+      ≡ entry (final (begin s x l) cs .held .maps) (x .geometry) i σ
+  -- Dropped here, or closed by one of the calls, and opened again with the same key, any permutation that names each slice and any tables
+  -- of the right lengths: served, with the same k, counts and arrays (document 02, P7).
+  pub again : (y : Handed) (l′ : Lent) → y .geometry ≡ x .geometry → y .key ≡ x .key
       → Names (y .geometry .p) (y .perm) → TablesFit (y .geometry) (length (l′ .maps)) (length (l′ .owners))
-      → Reopens (next (final (begin s x l) cs) (Closing tape) .device) y l′ k (holds s x l .session .counts)
+      → Reopens (final (begin s x l) cs .device) y l′ k (holds s x l .session .counts)
       (arraysAfterAll (x .geometry) (firstArrays s x l) (events (begin s x l) cs))
 
 -- ---- point 3: two runs
@@ -201,11 +211,11 @@ pub record Agree (s t : List ℕ) (x : Handed) (l : Lent) (k : ℕ) : Type 0 whe
       → sliceBytes (x .geometry) s ψ ≡ sliceBytes (x .geometry) t ψ
 
 -- Two runs of one list: equal answers, tape positions, tables and session, and equal bytes where they wrote.
-pub record EqualRuns (k : ℕ) (st st′ : State) (cs : List Call) : Type 0 where
+pub record EqualRuns (st st′ : State) (cs : List Call) : Type 0 where
   pub same-events : events st cs ≡ events st′ cs
   pub same-positions : positions st cs ≡ positions st′ cs
   pub same-held : final st cs .held ≡ final st′ cs .held
-  pub written : (p : ℕ) → Within p (writtenByAll (geometry (st .held)) k (events st cs))
+  pub written : (p : ℕ) → Within p (writtenByAll (geometry (st .held)) (events st cs))
       → getD (final st cs .device) p 0 ≡ getD (final st′ cs .device) p 0
 
 -- ---- points 2 and 3, of a served opening
@@ -221,7 +231,7 @@ pub record Guarantee (s : List ℕ) (x : Handed) (l : Lent) (k : ℕ) : Type 0 w
   pub array : (cs : List Call) → Run s x l k cs
   -- Point 3.
   pub twin : (t : List ℕ) (l′ : Lent) → Agree s t x l k → length (l′ .maps) ≡ length (l .maps) → length (l′ .owners) ≡ length (l .owners)
-      → (opens t x l′ .answer ≡ OpenTo k) × ((cs : List Call) → EqualRuns k (begin s x l) (begin t x l′) cs × Run t x l′ k cs)
+      → (opens t x l′ .answer ≡ OpenTo k) × ((cs : List Call) → EqualRuns (begin s x l) (begin t x l′) cs × Run t x l′ k cs)
 
 abbrev pub Points23 : Type 0
 Points23 = (s : List ℕ) (x : Handed) (l : Lent) (k : ℕ) → opens s x l .answer ≡ OpenTo k → Guarantee s x l k

@@ -1,17 +1,17 @@
 -- Point 1 (README.md, "What is proved"): the listed refusals of each call in their listed order, each with its condition (document 01,
--- "Refused for ..", and the orders of the calls; document 02, P1, P2, P4, P5 and P6). The conditions are the documents', in their own words
+-- "Refused for ..", and the orders of the calls; document 02, P1, P2, P4 to P7). The conditions are the documents', in their own words
 -- and not the model's. Assumes nothing.
 use Prim.Native.Nat.{ℕ, _+_, _-_, _*_, _≤_, _<_}
 use mathlib.Core.Path.{_≡_}
 use mathlib.Core.Logic.{_⊎_}
 use mathlib.Core.List.{List, [], _∷_, _++_}
-use lib.ListN.{length, getD}
+use lib.ListN.{length}
 use Rattle.model.specs.declared.Geometry.{Geometry}
 use Rattle.model.specs.declared.Session.{Session}
-use Rattle.model.specs.Conditions.{Counted, Usable, TablesFit, EntryFits, EntryFitsAt, Enough, AllHeld, FirstFree, FirstBad, Names, EnoughDraws}
+use Rattle.model.specs.Conditions.{Counted, Usable, TablesFit, EntryFits, BlockFits, Enough, AllHeld, FirstFree, FirstBad, Names, EnoughDraws}
 use Rattle.model.specs.Parts.{part}
 use Rattle.model.specs.Geometry.{Allowed, deviceLength, mapBlocks, ivStart, blockStart}
-use Rattle.model.specs.Session.{Held, geometry, countOf, unmapped, entry, entryOf, offsetOf}
+use Rattle.model.specs.Session.{Held, geometry, countOf, unmapped, entry, entryOf, sliceOf, offsetOf}
 
 -- A refusal with the places looked at that it carries, and its condition.
 pub record Rule : Type 1 where
@@ -123,35 +123,42 @@ shuffleRules g list tape position =
 abbrev pub readRules : (device : ℕ) → (maps owners : List ℕ) → Session → (i a room : ℕ) → List Rule
 readRules device maps owners s i a room = standingRules device (length maps) (length owners) s ++ askedRules maps s i a room
 
--- Write: 20, 2, 4, 5 (length), 11, 12, 13, 9; then 21 for a rewrite, and for a claim 5 at place n or 22, then 21, with the
--- places looked at, which are those from the start place on (document 02, P2).
+-- Every entry in the map block of logical slice σ of volume i fits.
+abbrev pub HeldFits : Held → (i σ : ℕ) → Type 0
+HeldFits h i σ = BlockFits (h .maps) (h .session) i σ
+
+-- Write: 20, 2, 4, 5 (length), 11, 12, 13, 9; then 21 for a rewrite, and for a claim 9 for a bad entry anywhere in the map block of the
+-- asked one (document 02, P7), 5 at place n or 22, then 21, with the places looked at, which are those from the start place on
+-- (document 02, P2). A claim takes B tape bytes, and 16 for the map block.
 abbrev pub writeRules : (device : ℕ) → Held → (i a : ℕ) → (text perm tape : List ℕ) → (n : ℕ) → List Rule
 writeRules device h i a text perm tape n =
     standingRules device (length (h .maps)) (length (h .owners)) (h .session)
     ++ (rule 5 (length perm ≡ geometry h .p → ⊥)
     ∷ (askedRules (h .maps) (h .session) i a (length text)
     ++ (rule 21 ((heldEntry h i a < geometry h .p) × (Enough (length tape) (h .position) 16 → ⊥))
+    ∷ rule 9 ((heldEntry h i a ≡ unmapped) × (HeldFits h i (sliceOf (geometry h) a) → ⊥))
     ∷ record { number = 5; probes = probesAt h n; holds = (heldEntry h i a ≡ unmapped) × BadAt h perm n }
     ∷ record { number = 22; probes = allProbes h; holds = (heldEntry h i a ≡ unmapped) × NoneFree h perm }
-    ∷ record { number = 21; probes = probesAt h n; holds = (heldEntry h i a ≡ unmapped) × (Enough (length tape) (h .position) (geometry h .b) → ⊥) }
+    ∷ record {
+      number = 21;
+      probes = probesAt h n;
+      holds = (heldEntry h i a ≡ unmapped) × (Enough (length tape) (h .position) (geometry h .b + 16) → ⊥);
+    }
     ∷ [])))
 
--- Release: 20, 2, 4, 5 (the whole permutation), 11, 12 (at or above N), 9 (the asked entry), 25 (document 02, P5).
-abbrev pub releaseRules : (device : ℕ) → Held → (i σ : ℕ) → (perm : List ℕ) → List Rule
-releaseRules device h i σ perm =
+-- Release: 20, 2, 4, 5 (the whole permutation), 11, 12 (at or above N), 9 (a bad entry anywhere in the map block of the asked one), 25, 21
+-- (document 02, P5 and P7).
+abbrev pub releaseRules : (device : ℕ) → Held → (i σ : ℕ) → (perm : List ℕ) → (tape : ℕ) → List Rule
+releaseRules device h i σ perm tape =
     standingRules device (length (h .maps)) (length (h .owners)) (h .session)
     ++ (rule 5 (Names (geometry h .p) perm → ⊥)
     ∷ rule 11 (h .session .k < i)
     ∷ rule 12 (countOf (h .session) i ≤ σ)
-    ∷ rule 9 (EntryFits (geometry h) (tableEntry h i σ) → ⊥)
+    ∷ rule 9 (HeldFits h i σ → ⊥)
     ∷ rule 25 (tableEntry h i σ ≡ unmapped)
+    ∷ rule 21 (Enough tape (h .position) 16 → ⊥)
     ∷ [])
 
--- Close: 20, 2, 4, then 9 for a bad entry in rows 0 to k, one at or past its volume's N too (document 02, P4), then 21.
-abbrev pub closeRules : (device : ℕ) → Held → (tape : ℕ) → List Rule
-closeRules device h tape =
-    standingRules device (length (h .maps)) (length (h .owners)) (h .session)
-    ++ (rule 9
-    (((n : ℕ) → n < (h .session .k + 1) * geometry h .p → EntryFitsAt (geometry h .p) (h .session .counts) n (getD (h .maps) n 0)) → ⊥)
-    ∷ rule 21 (Enough tape (h .position) (16 * mapBlocks (geometry h) * (h .session .k + 1)) → ⊥)
-    ∷ [])
+-- Close: 20, 2, 4 (document 02, P7).
+abbrev pub closeRules : (device : ℕ) → Held → List Rule
+closeRules device h = standingRules device (length (h .maps)) (length (h .owners)) (h .session)

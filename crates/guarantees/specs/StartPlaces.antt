@@ -68,8 +68,8 @@ OnePermutation perm [] = Unit
 OnePermutation perm (Writing i a text other tape ∷ cs) = (other ≡ perm) × OnePermutation perm cs
 OnePermutation perm (Reading i a room ∷ cs) = OnePermutation perm cs
 OnePermutation perm (Finding i a ∷ cs) = OnePermutation perm cs
-OnePermutation perm (Releasing i σ other ∷ cs) = (other ≡ perm) × OnePermutation perm cs
-OnePermutation perm (Closing tape ∷ cs) = OnePermutation perm cs
+OnePermutation perm (Releasing i σ other tape ∷ cs) = (other ≡ perm) × OnePermutation perm cs
+OnePermutation perm (Closing ∷ cs) = OnePermutation perm cs
 
 -- The places that a claim looked at; one that is refused by 5 or 21 is left out.
 abbrev pub counted : Event → ℕ
@@ -77,8 +77,8 @@ counted (Writes i a text perm tape (WriteResult.Served change probes)) = probes
 counted (Writes i a text perm tape (WriteResult.Refused n probes)) = choose (eqb n 5 || eqb n 21) 0 probes
 counted (Reads i a room r) = 0
 counted (Finds i a bytes) = 0
-counted (Releases i σ perm r) = 0
-counted (Closes tape r) = 0
+counted (Releases i σ perm tape r) = 0
+counted (Closes r) = 0
 
 -- Those of a list together.
 unfoldable pub countedAll : List Event → ℕ
@@ -87,12 +87,12 @@ countedAll (e ∷ es) = counted e + countedAll es
 
 -- 1 for a release that was served, and how many a list has.
 abbrev pub releasing : Event → ℕ
-releasing (Releases i σ perm (ReleaseResult.Freed ψ)) = 1
-releasing (Releases i σ perm (ReleaseResult.Refused n)) = 0
+releasing (Releases i σ perm tape (ReleaseResult.Freed ψ)) = 1
+releasing (Releases i σ perm tape (ReleaseResult.Refused n)) = 0
 releasing (Reads i a room r) = 0
 releasing (Finds i a bytes) = 0
 releasing (Writes i a text perm tape r) = 0
-releasing (Closes tape r) = 0
+releasing (Closes r) = 0
 
 unfoldable pub releasesIn : List Event → ℕ
 releasesIn [] = 0
@@ -112,7 +112,7 @@ pub record StartPlaces : Type 0 where
   -- What a write sets the start place to.
   pub sets : (device : ℕ) (h : Held) (i a : ℕ) (text perm tape : List ℕ) → Sets h perm (writeModel device h i a text perm tape)
   -- And a release.
-  pub lowers : (device : ℕ) (h : Held) (i σ : ℕ) (perm : List ℕ) → Lowers h perm (releaseModel device h i σ perm)
+  pub lowers : (device : ℕ) (h : Held) (i σ : ℕ) (perm tape : List ℕ) → Lowers h perm (releaseModel device h i σ perm tape)
   -- While no slice at an earlier place is free, the search from the start place on finds what the search from place 0 on finds, and a
   -- write does what it would have done from place 0 on.
   pub found : (owners : List ℕ) (p : ℕ) (perm : List ℕ) (start : ℕ) → start ≤ length perm → AllHeld owners p perm 0 start

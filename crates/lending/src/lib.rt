@@ -5,13 +5,13 @@
 ghost use lib.ListN.{length};
 ghost use Rattle.model.specs.Session.{held};
 ghost use Rattle.model.specs.Write.{WriteResult, writeModel};
-ghost use Rattle.model.specs.Close.{CloseResult, closeModel};
+ghost use Rattle.model.specs.Release.{ReleaseResult, releaseModel};
 ghost use Rattle.model.specs.Format.{formatModel};
 ghost use Rattle.model.specs.Shuffle.{shuffleModel};
-ghost use Rattle.model.specs.Answers.{writeResult, closeResult, Leaves, LentLeaves};
+ghost use Rattle.model.specs.Answers.{writeResult, releaseResult, Leaves, LentLeaves};
 ghost use Rattle.refusals.specs.Numbers.{answerNumber};
 use model::Geometry;
-use model::Reply;
+use model::Released;
 use model::Session;
 use model::TapePosition;
 use model::Written;
@@ -52,21 +52,34 @@ pub fn write_at(
     w
 }
 
-// `closing::close` with the tape position as a number.
-pub fn close_at(
+// `releasing::release` with the tape position as a number.
+pub fn release_at(
     device: &mut [u8],
     maps: &mut [u32],
     owners: &mut [u8],
+    perm: &[u32],
     tape: &[u8],
     at: &mut usize,
     session: Session,
-) -> Reply
-    ensures { λ r. ⌜ Leaves CloseResult (closeModel (length (now (device .entry)))
-        (held (now (maps .entry)) (now (owners .entry)) (now (at .entry)) session) (now (tape .entry)))
-        (now (device .entry)) (closeResult (r .answer)) (now (device .exit)) (now (maps .exit)) (now (owners .exit)) (now (at .exit)) (r .session) ⌝ }
+    volume: usize,
+    logical: usize,
+) -> Released
+    ensures { λ r. ⌜ Leaves ReleaseResult (releaseModel (length (now (device .entry)))
+        (held (now (maps .entry)) (now (owners .entry)) (now (at .entry)) session) volume logical (now (perm .entry)) (now (tape .entry)))
+        (now (device .entry)) (releaseResult (r .answer)) (now (device .exit)) (now (maps .exit)) (now (owners .exit)) (now (at .exit)) (r .session) ⌝ }
 {
     let mut position = TapePosition { at: *at };
-    let r = closing::close(device, maps, owners, tape, &mut position, session);
+    let r = releasing::release(
+        device,
+        maps,
+        owners,
+        perm,
+        tape,
+        &mut position,
+        session,
+        volume,
+        logical,
+    );
     *at = position.at;
     r
 }

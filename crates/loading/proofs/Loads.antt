@@ -1,5 +1,5 @@
 -- Laws of loading entries into the tables, a run of them after another. Assumes nothing.
-use Prim.Native.Nat.{ℕ, zero, suc, _+_, _-_, _/_, _≤_, _<_}
+use Prim.Native.Nat.{ℕ, zero, suc, _+_, _-_, _/_, _%_, _≤_, _<_}
 use mathlib.Core.Path.{_≡_, refl, sym, ap, ap₂, _∙_, subst}
 use mathlib.Core.Bool.{Bool, true, false}
 use mathlib.Core.List.{List}
@@ -9,6 +9,7 @@ use native.Mathlib.Omega.{arith}
 use lib.Dec.{eqb}
 use lib.ListN.{getD, set}
 use Rattle.model.specs.Parts.{choose}
+use Rattle.model.specs.Geometry.{countIn}
 use Rattle.model.specs.Session.{unmapped, placed}
 use Rattle.model.specs.Opening.{Loaded, Tables, Spoilt, settle, load}
 use Rattle.tables.specs.Settled.{Settled}
@@ -52,7 +53,7 @@ module _ (p : ℕ) (counts : List ℕ) where
   settle-then : (x n : ℕ) (maps owners : List ℕ) (more : List ℕ → List ℕ → Loaded)
       → settle p counts x n maps owners more ≡ andThen (settle p counts x n maps owners Tables) more
   unfolding andThen
-  settle-then x n maps owners more = by-tests (eqb x unmapped) (placed p counts n x) (eqb (getD owners x 0) 0)
+  settle-then x n maps owners more = by-tests (eqb x unmapped) (placed p (countIn counts (n / p)) (n % p) x) (eqb (getD owners x 0) 0)
     where
       settled : (a b c : Bool) → (List ℕ → List ℕ → Loaded) → Loaded
       settled a b c next =

@@ -12,7 +12,7 @@ use Rattle.model.specs.declared.Geometry.{Geometry}
 use Rattle.model.specs.Parts.{part, overlay, joined}
 use Rattle.model.specs.Geometry.{Allowed, perBlock, mapBlocks}
 use Rattle.model.specs.Opening.{noMaps}
-use Rattle.model.specs.Close.{mapBlock, mapBytes}
+use Rattle.model.specs.Maps.{mapBlock, mapBytes}
 use Rattle.model.proofs.Parts.{part-length, joined-length, joined-ext}
 use Rattle.model.proofs.Bounds.{b-bounds, entries-fill}
 use Rattle.model.proofs.MapBlocks.{mapBlock-row, mapText-marks}
@@ -57,12 +57,11 @@ module _ (row : List ℕ) (g : Geometry) (key tape : List ℕ) (at : ℕ) where
 
 -- ---- the model's map blocks
 
--- Row i of the map table gives the map blocks of volume i.
-pub rowBytes-map : (maps : List ℕ) (g : Geometry) (key tape : List ℕ) (at i : ℕ) → i * g .p + g .p ≤ length maps
-    → rowBytes (part (i * g .p) (g .p) maps) g key tape at ≡ mapBytes maps g key tape at i
-unfolding rowBytes rowText mapBytes
-rowBytes-map maps g key tape at i l =
-    joined-ext (mapBlocks g) _ _ (λ t h. sym (mapBlock-row maps g i t l key (part (at + 16 * t) 16 tape)))
+-- Row i of the map table gives a map block of volume i.
+pub rowBlock-map : (maps : List ℕ) (g : Geometry) (key : List ℕ) (i t : ℕ) (iv : List ℕ) → i * g .p + g .p ≤ length maps
+    → rowBlock (part (i * g .p) (g .p) maps) g key t iv ≡ mapBlock maps g key i t iv
+unfolding rowText
+rowBlock-map maps g key i t iv l = sym (mapBlock-row maps g i t l key iv)
 
 -- A row of no entry gives the map blocks of a map that holds nothing.
 pub rowBytes-none : (g : Geometry) (key tape : List ℕ) (at i : ℕ) → i < 15 → rowBytes [] g key tape at ≡ mapBytes (noMaps g) g key tape at i

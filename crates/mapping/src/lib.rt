@@ -6,8 +6,9 @@ ghost use mathlib.Core.Path.{_≡_};
 ghost use Prim.Native.Nat.{_+_, _-_, _*_, _≤_, _<_};
 ghost use lib.ListN.{length, getD};
 ghost use Rattle.model.specs.Parts.{overlay};
-ghost use Rattle.model.specs.Geometry.{Allowed, mapBlocks, deviceLength, mapStart};
+ghost use Rattle.model.specs.Geometry.{Allowed, mapBlocks, deviceLength, mapStart, mapBlockStart};
 ghost use Rattle.model.specs.Session.{unmapped};
+ghost use Rattle.model.specs.Maps.{mapBlock, mapBlockOf};
 ghost use Rattle.mapping.specs.Rows.{rowText, rowBlock, rowBytes};
 use model::Geometry;
 
@@ -100,4 +101,26 @@ pub fn store_maps(
         store_map(device, start + t * b, row, g, key, &tape[from..to], t);
         t += 1;
     }
+}
+
+// The map block that has the entry of a logical slice, made from the map table, at its place.
+pub fn store_block_of(
+    device: &mut [u8],
+    maps: &[u32],
+    g: Geometry,
+    key: &[u8],
+    iv: &[u8],
+    volume: usize,
+    logical: usize,
+)
+    requires { ⌜ Allowed g × (length (now maps) ≡ 15 * g .p) × (length (now key) ≡ 32) × (length (now iv) ≡ 16) × (volume ≤ 14) × (logical < g .p)
+        × (length (now device) ≡ deviceLength g) ⌝ }
+    ensures { λ r. ⌜ now (device .exit) ≡ overlay (now (device .entry)) (mapBlockStart g volume (mapBlockOf g logical))
+        (mapBlock (now (maps .entry)) g (now (key .entry)) volume (mapBlockOf g logical) (now (iv .entry))) ⌝ }
+{
+    let t = logical / places::entries_per_block(g);
+    let at = places::map_start(g, volume) + g.b * t;
+    let from = volume * g.p;
+    let to = from + g.p;
+    store_map(device, at, &maps[from..to], g, key, iv, t);
 }

@@ -20,7 +20,7 @@ use Rattle.model.specs.Parts.{choose, part, joined}
 use Rattle.model.specs.Geometry.{Allowed, perBlock, fourBytes}
 use Rattle.model.specs.Session.{entry, unmapped}
 use Rattle.model.specs.Opening.{noMaps}
-use Rattle.model.specs.Close.{mapText, mapBlock}
+use Rattle.model.specs.Maps.{mapText, mapBlock}
 use Rattle.model.proofs.Parts.{joined-length, joined-ext, joined-replicate, part-length}
 use Rattle.model.proofs.Tests.{below}
 use Rattle.model.proofs.Bounds.{b-bounds, entries-fill}

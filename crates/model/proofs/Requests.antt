@@ -1,30 +1,33 @@
 -- Laws of the refusals of each call: what holds where none of them applies. Assumes nothing.
-use Prim.Native.Nat.{ℕ, _+_, _-_, _*_, _≤_, _<_}
-use mathlib.Core.Path.{_≡_, refl, ap, _∙_}
+use Prim.Native.Nat.{ℕ, _+_, _-_, _*_, _/_, _%_, _≤_, _<_}
+use mathlib.Core.Path.{_≡_, refl, ap, subst, _∙_}
 use mathlib.Core.List.{List}
-use mathlib.Core.Bool.{true, false, not}
-use mathlib.Core.Logic.{⊎-elim}
+use mathlib.Core.Bool.{Bool, true, false, not}
+use mathlib.Core.Logic.{_⊎_, ⊎-elim}
+use native.Mathlib.Nat.{div-add-mod', mod-lt, min-le-left, min-le-right}
 use native.Mathlib.Omega.{arith}
+use lib.Arith.{digits-div}
 use lib.Dec.{ltb}
 use lib.ListN.{length}
 use borrow.Author.Tests.{leb-false, ltb-true, ltb-false, eqb-true, eqb-false, not-false, le-ltb, lt-leb}
 use Rattle.refusals.proofs.Refuse.{refuse-none, refuse-false}
 use Rattle.model.specs.declared.Geometry.{Geometry}
 use Rattle.model.specs.declared.Session.{Session}
-use Rattle.model.specs.Geometry.{Allowed, countIn, badCount, anyBadCount, deviceLength}
-use Rattle.model.specs.Session.{Held, countOf, blockCount, slot, sliceOf, entry, entryOf, standing, asked, short}
-use Rattle.model.specs.Conditions.{CountsFit, Counted, Usable, TablesFit, EntryFits, Enough}
+use Rattle.model.specs.Geometry.{Allowed, countIn, badCount, anyBadCount, perBlock, deviceLength}
+use Rattle.model.specs.Session.{Held, geometry, countOf, blockCount, slot, sliceOf, entry, entryOf, unmapped, badEntryAt, standing, asked, short}
+use Rattle.model.specs.Conditions.{CountsFit, Counted, Usable, TablesFit, EntryFits, BlockFits, Enough}
+use Rattle.model.specs.Maps.{entriesIn, badInBlock}
 use Rattle.model.specs.Permutation.{missing}
 use Rattle.model.specs.Opening.{openRefusal}
 use Rattle.model.specs.Read.{readRefusal}
 use Rattle.model.specs.Write.{writeRefusal}
 use Rattle.model.specs.Release.{releaseRefusal}
-use Rattle.model.specs.Close.{closeNeed, closeRefusal}
 use Rattle.model.specs.Format.{formatNeed, formatRefusal}
-use Rattle.model.proofs.Tests.{or-true, or-false, equal-passes, badGeometry-none, badGeometry-allowed, badEntry-false, badEntry-fits}
-use Rattle.model.proofs.Tests.{badCount-false, badCount-fits}
+use Rattle.model.specs.Shuffle.{shuffleRefusal}
+use Rattle.model.proofs.Tests.{lt-min, or-true, or-false, equal-passes, badGeometry-none, badGeometry-allowed, badEntry-false, badEntry-fits}
+use Rattle.model.proofs.Tests.{badCount-false, badCount-fits, badEntryAt-false, badEntryAt-fits}
 use Rattle.model.proofs.Below.{anyBelow-none, anyBelow-fails}
-use Rattle.model.proofs.Bounds.{slot-lt, sliceOf-lt}
+use Rattle.model.proofs.Bounds.{perBlock-least, slot-lt, sliceOf-lt}
 
 -- ---- counts
 
@@ -167,19 +170,51 @@ module _ (device : ℕ) (maps owners : List ℕ) (s : Session) (i a len : ℕ) w
         let q = refuse-none _ _ _ (p .1) in
         record { none = e; stands = p .0; places = eqb-true _ _ (not-false _ (q .0)); asked = asked-none _ _ _ _ _ (q .1) }
 
+-- ---- the map block of an entry (document 02, P7)
+
+module _ (maps : List ℕ) (s : Session) (i σ : ℕ) where
+  -- Entry e of the block, where it stands in the row, and the number of the entries that are judged.
+  abbrev c : ℕ
+  c = perBlock (s .geometry)
+
+  abbrev bad : ℕ → Bool
+  bad e = badEntryAt (s .geometry .p) (countOf s i) (σ / c * c + e) (entry maps (s .geometry) i (σ / c * c + e))
+
+  -- No bad entry is found where every entry of the block fits, and the other way round.
+  pub badInBlock-none : 1 ≤ c → badInBlock maps s i σ ≡ false → BlockFits maps s i σ
+  unfolding badInBlock
+  badInBlock-none least e τ l same =
+      let d = div-add-mod' τ c in
+      let at : σ / c * c + τ % c ≡ τ = rw (← same) d in
+      let judged : τ % c < entriesIn (s .geometry) (σ / c) = lt-min c _ (mod-lt τ least) (omega (arith, at, l)) in
+      subst (λ (n : ℕ). (entry maps (s .geometry) i n ≡ unmapped) ⊎ ((entry maps (s .geometry) i n < s .geometry .p) × (n < countOf s i))) at
+      (badEntryAt-false _ _ _ _ (anyBelow-fails bad _ e (τ % c) judged))
+
+  pub badInBlock-fits : 1 ≤ c → BlockFits maps s i σ → badInBlock maps s i σ ≡ false
+  unfolding badInBlock
+  badInBlock-fits least fits = anyBelow-none bad _ (λ e l. badEntryAt-fits _ _ _ _ (fits (σ / c * c + e) (inside e l) (same e l)))
+    where
+      inside : (e : ℕ) → e < entriesIn (s .geometry) (σ / c) → σ / c * c + e < s .geometry .p
+      inside e l = omega (arith, min-le-right c (s .geometry .p - σ / c * c))
+
+      same : (e : ℕ) → e < entriesIn (s .geometry) (σ / c) → (σ / c * c + e) / c ≡ σ / c
+      same e l = digits-div (σ / c) (omega (arith, min-le-left c (s .geometry .p - σ / c * c)))
+
 -- ---- release
 
-module _ (device : ℕ) (maps owners : List ℕ) (s : Session) (i σ : ℕ) (perm : List ℕ) where
+module _ (device : ℕ) (h : Held) (i σ : ℕ) (perm : List ℕ) (tape : ℕ) where
   -- A release that is not refused.
   pub record Releasable : Type 0 where
-    pub stands : Stands device (length maps) (length owners) s
-    pub places : length perm ≡ s .geometry .p
-    pub named : missing (s .geometry .p) perm ≡ false
-    pub volume : i ≤ s .k
-    pub slice : σ < countOf s i
-    pub mapped : entry maps (s .geometry) i σ < s .geometry .p
+    pub stands : Stands device (length (h .maps)) (length (h .owners)) (h .session)
+    pub places : length perm ≡ geometry h .p
+    pub named : missing (geometry h .p) perm ≡ false
+    pub volume : i ≤ h .session .k
+    pub slice : σ < countOf (h .session) i
+    pub block : BlockFits (h .maps) (h .session) i σ
+    pub mapped : entry (h .maps) (geometry h) i σ < geometry h .p
+    pub enough : Enough tape (h .position) 16
 
-  pub releaseRefusal-none : releaseRefusal device maps owners s i σ perm ≡ 0 → Releasable
+  pub releaseRefusal-none : releaseRefusal device h i σ perm tape ≡ 0 → Releasable
   unfolding releaseRefusal
   releaseRefusal-none e =
       let p1 = standing-none _ _ _ _ _ e in
@@ -189,30 +224,22 @@ module _ (device : ℕ) (maps owners : List ℕ) (s : Session) (i σ : ℕ) (per
       let p5 = refuse-none _ _ _ (p4 .1) in
       let p6 = refuse-none _ _ _ (p5 .1) in
       let p7 = refuse-none _ _ _ (p6 .1) in
+      let p8 = refuse-none _ _ _ (p7 .1) in
+      let block = badInBlock-none _ _ i σ (perBlock-least _ (p1 .0 .usable .allowed)) (p6 .0) in
+      let volume = ltb-false (h .session .k) i (p4 .0) in
+      let slice = leb-false (countOf (h .session) i) σ (p5 .0) in
+      let count = p1 .0 .usable .counted i (omega (arith, volume)) in
       record {
         stands = p1 .0;
         places = eqb-true _ _ (not-false _ (p2 .0));
         named = p3 .0;
-        volume = ltb-false _ _ (p4 .0);
-        slice = leb-false _ _ (p5 .0);
-        mapped = ⊎-elim (λ u. absurd (eqb-false _ _ (p7 .0) u)) (λ l. l) (badEntry-false _ _ (p6 .0));
+        volume = volume;
+        slice = slice;
+        block = block;
+        mapped =
+            ⊎-elim (λ u. absurd (eqb-false _ _ (p7 .0) u)) (λ l. l .0) (block σ (omega (arith, slice, count .1)) refl);
+        enough = short-false _ _ _ (p8 .0);
       }
-
--- ---- close
-
-module _ (device : ℕ) (h : Held) (tape : ℕ) where
-  -- A close that is not refused.
-  pub record Closable : Type 0 where
-    pub stands : Stands device (length (h .maps)) (length (h .owners)) (h .session)
-    pub enough : Enough tape (h .position) (closeNeed (h .session))
-
-  pub closeRefusal-none : closeRefusal device h tape ≡ 0 → Closable
-  unfolding closeRefusal
-  closeRefusal-none e =
-      let p1 = standing-none _ _ _ _ _ e in
-      let p2 = refuse-none _ _ _ (p1 .1) in
-      let p3 = refuse-none _ _ _ (p2 .1) in
-      record { stands = p1 .0; enough = short-false _ _ _ (p3 .0) }
 
 -- ---- opening: 1 to 5
 
@@ -288,6 +315,23 @@ module _ (device : ℕ) (g : Geometry) (n keys : ℕ) (counts : List ℕ) (tape 
       ∙ refuse-false _ _ _ (le-ltb _ _ (q .count .1))
       ∙ refuse-false _ _ _ (equal-passes _ _ (q .keyed))
       ∙ refuse-false _ _ _ (short-enough _ _ _ (q .enough))
+
+-- ---- shuffle: 1, 4, and 21 where the position is past the end
+
+-- A shuffle that no refusal before its draws applies to: the geometry is allowed, the list P long, and the position not past the end.
+pub record Shufflable (g : Geometry) (list tape position : ℕ) : Type 0 where
+  pub allowed : Allowed g
+  pub long : list ≡ g .p
+  pub inside : position ≤ tape
+
+pub shuffleRefusal-none : (g : Geometry) (list tape position : ℕ) → shuffleRefusal g list tape position ≡ 0
+    → Shufflable g list tape position
+unfolding shuffleRefusal
+shuffleRefusal-none g list tape position e =
+    let ok = badGeometry-none 0 g _ e in
+    let p1 = refuse-none _ 3 _ (ok .1) in
+    let p2 = refuse-none _ 20 _ (p1 .1) in
+    record { allowed = ok .0; long = eqb-true list _ (not-false _ (p1 .0)); inside = ltb-false tape position (p2 .0) }
 
 -- ---- the entry of a logical slice, and of an asked block
 

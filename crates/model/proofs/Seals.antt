@@ -15,7 +15,7 @@ use Rattle.gcm.proofs.Gctr.{text-twice, text-length, tag-length}
 use Rattle.gcm.proofs.Same.{open-sealed, open-right}
 use Rattle.model.specs.declared.Geometry.{Geometry}
 use Rattle.model.specs.Parts.{part, joined}
-use Rattle.model.specs.Geometry.{Allowed, perBlock, mapBlocks, numberAt, fourBytes, cellStart, cellOf, headerStart, headerOf, mapStart}
+use Rattle.model.specs.Geometry.{Allowed, perBlock, mapBlocks, numberAt, fourBytes, cellStart, cellOf, headerStart, headerOf, mapStart, mapBlockStart}
 use Rattle.model.specs.Opening.{openCell, openHeader, storedEntry}
 use Rattle.model.specs.Format.{sealed}
 use Rattle.model.specs.Theorems.{HeaderText, Sealed}
@@ -153,7 +153,7 @@ module _ (g : Geometry) (ok : Allowed g) (vek iv : List ℕ) (entries : ℕ → 
       ∙ ap number (joined-part 4 (perBlock g) _ (λ n h. bigEndian-length 4 (entries n)) e l)
       ∙ fourBytes-number (entries e) fits
 
-pub sealed-entry : (g : Geometry) → Allowed g → (vek iv header : List ℕ) (entries : ℕ → ℕ) (t e : ℕ)
+sealed-entry : (g : Geometry) → Allowed g → (vek iv header : List ℕ) (entries : ℕ → ℕ) (t e : ℕ)
     → length iv ≡ 16 → e < perBlock g → entries e < 256 ^ 4
     → part (g .b * (1 + t)) (g .b) header ≡ iv ++ ctr vek iv (joined (perBlock g) (λ n. fourBytes (entries n)))
     → storedEntry g vek header (t * perBlock g + e) ≡ entries e
@@ -175,14 +175,18 @@ sealed-entry g ok vek iv header entries t e ivl l fits is =
     cipher-is : part (at + 16) (g .b - 16) header ≡ part 16 (g .b - 16) (block g ok vek iv entries ivl)
     cipher-is = sym (part-part header at (g .b) 16 (g .b - 16) (omega (arith, b-bounds g ok))) ∙ ap (part 16 (g .b - 16)) is
 
+-- Map block t of volume i, seen through the header.
+pub header-block : (g : Geometry) (device : List ℕ) (i t : ℕ) → t < mapBlocks g
+    → part (g .b * (1 + t)) (g .b) (headerOf g device i) ≡ part (mapBlockStart g i t) (g .b) device
+unfolding mapStart
+header-block g device i t lt =
+    let at : headerStart g i + g .b * (1 + t) ≡ mapStart g i + g .b * t = omega arith in
+    part-part device (headerStart g i) (g .b * (1 + mapBlocks g)) (g .b * (1 + t)) (g .b) (omega (arith, mul-le-mul-left (g .b) lt))
+    ∙ ap (λ (y : ℕ). part y (g .b) device) at
+
 pub map-entry : (g : Geometry) → Allowed g → (device vek iv : List ℕ) (entries : ℕ → ℕ) (i t e : ℕ)
     → t < mapBlocks g → e < perBlock g → length iv ≡ 16 → entries e < 256 ^ 4
     → part (mapStart g i + g .b * t) (g .b) device ≡ iv ++ ctr vek iv (joined (perBlock g) (λ n. fourBytes (entries n)))
     → storedEntry g vek (headerOf g device i) (t * perBlock g + e) ≡ entries e
-unfolding mapStart
 map-entry g ok device vek iv entries i t e lt le ivl fits is =
-    let at : headerStart g i + g .b * (1 + t) ≡ mapStart g i + g .b * t = omega arith in
-    sealed-entry g ok vek iv (headerOf g device i) entries t e ivl le fits
-    (part-part device (headerStart g i) (g .b * (1 + mapBlocks g)) (g .b * (1 + t)) (g .b) (omega (arith, mul-le-mul-left (g .b) lt))
-    ∙ ap (λ (y : ℕ). part y (g .b) device) at
-    ∙ is)
+    sealed-entry g ok vek iv (headerOf g device i) entries t e ivl le fits (header-block g device i t lt ∙ is)

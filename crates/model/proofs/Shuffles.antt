@@ -123,13 +123,13 @@ ordered-names (suc i) (d ∷ ds) xs p (inl l) names =
     ordered-names i ds (exchanged (suc i) (d % suc (suc i)) xs) p (inl (omega (arith, l)))
     (exchanged-names (suc i) (d % suc (suc i)) xs p l (omega (arith, l, lt)) names)
 
--- The last place, or that there is none.
-last : (p : ℕ) → p - 1 < p ⊎ (p - 1 ≡ 0)
-last zero = inr (omega arith)
-last (suc p) = inl (omega arith)
+-- The last place is one of P, or there is none.
+pub last-place : (p : ℕ) → p - 1 < p ⊎ (p - 1 ≡ 0)
+last-place zero = inr (omega arith)
+last-place (suc p) = inl (omega arith)
 
 pub ordering-names : (p : ℕ) (ds : List ℕ) → Names p (ordering p ds)
-ordering-names p ds = ordered-names (p - 1) ds (inOrder p) p (last p) (inOrder-names p)
+ordering-names p ds = ordered-names (p - 1) ds (inOrder p) p (last-place p) (inOrder-names p)
 
 pub ordering-shuffles : (p : ℕ) (ds : List ℕ) → length ds ≡ p - 1 → Shuffles p ds (ordering p ds)
 ordering-shuffles p ds e =
@@ -139,7 +139,7 @@ ordering-shuffles p ds e =
       each = inOrder-at p;
       exchanges =
           ordered-exchanges (p - 1) ds (inOrder p) e
-          (⊎-elim (λ l. inl (omega (arith, l, inOrder-length p))) inr (last p));
+          (⊎-elim (λ l. inl (omega (arith, l, inOrder-length p))) inr (last-place p));
     }
 
 -- ---- draws that are accepted

@@ -1,17 +1,17 @@
 -- Laws of tests, and of a geometry and an entry that pass them. Assumes nothing.
-use Prim.Native.Nat.{ℕ, suc, _/_, _%_, _≤_, _<_}
+use Prim.Native.Nat.{ℕ, suc, _≤_, _<_, min}
 use mathlib.Core.Path.{_≡_, refl, sym, ap, _∙_}
 use mathlib.Core.Bool.{Bool, true, false, not, _||_, _&&_, false≢true}
 use mathlib.Core.Logic.{_⊎_, inl, inr, ⊎-elim}
-use mathlib.Core.List.{List}
-use native.Mathlib.Nat.{eq-or-lt-of-le}
+use native.Mathlib.Nat.{eq-or-lt-of-le, min-eq-left, min-eq-right}
+use native.Mathlib.Omega.{arith}
 use lib.Dec.{ltb, eqb}
 use borrow.Author.Tests.{ltb-true, ltb-false, eqb-true, eqb-false, not-false, eq-eqb, lt-ltb, le-ltb}
 use Rattle.refusals.proofs.Refuse.{refuse-none, refuse-false}
 use Rattle.model.specs.declared.Geometry.{Geometry}
-use Rattle.model.specs.Geometry.{Allowed, badGeometry, badCount, countIn}
+use Rattle.model.specs.Geometry.{Allowed, badGeometry, badCount}
 use Rattle.model.specs.Session.{unmapped, badEntry, placed, badEntryAt}
-use Rattle.model.specs.Conditions.{CountFits, EntryFitsAt}
+use Rattle.model.specs.Conditions.{CountFits}
 
 -- ---- tests
 
@@ -36,6 +36,13 @@ below a b = go (ltb a b) refl
 
 pub three : (a b : ℕ) → (a < b) ⊎ ((a ≡ b) ⊎ (b < a))
 three a b = ⊎-elim (λ l. inl l) (λ l. inr (⊎-elim (λ q. inl (sym q)) (λ m. inr m) (eq-or-lt-of-le l))) (below a b)
+
+-- The lower of two numbers is one of them.
+pub min-cases : (m n : ℕ) → ((m ≤ n) × (min m n ≡ m)) ⊎ ((n ≤ m) × (min m n ≡ n))
+min-cases m n = ⊎-elim (λ l. let k : m ≤ n = omega (arith, l) in inl (k, min-eq-left k)) (λ l. inr (l, min-eq-right l)) (below m n)
+
+pub lt-min : (m n : ℕ) {a : ℕ} → a < m → a < n → a < min m n
+lt-min m n l k = ⊎-elim (λ q. rw (q .1) l) (λ q. rw (q .1) k) (min-cases m n)
 
 pub equal : (a b : ℕ) → (a ≡ b) ⊎ (a ≡ b → ⊥)
 equal a b = go (eqb a b) refl
@@ -103,19 +110,19 @@ badEntry-fits p x w = ap not whole
     whole : (eqb x unmapped || ltb x p) ≡ true
     whole = ⊎-elim (λ e. rw (eq-eqb x unmapped e) refl) (λ l. or-right (eqb x unmapped) (lt-ltb x p l)) w
 
--- The same at an index of the map table (document 02, P4).
-module _ (p : ℕ) (counts : List ℕ) (n x : ℕ) where
-  pub placed-true : placed p counts n x ≡ true → (x < p) × (n % p < countIn counts (n / p))
+-- The same at a logical slice of a volume with n of them (document 02, P4).
+module _ (p n σ x : ℕ) where
+  pub placed-true : placed p n σ x ≡ true → (x < p) × (σ < n)
   placed-true e = let q = and-true (ltb x p) _ e in (ltb-true x p (q .0), ltb-true _ _ (q .1))
 
-  pub placed-below : x < p → n % p < countIn counts (n / p) → placed p counts n x ≡ true
-  placed-below l m = rw (lt-ltb x p l, lt-ltb (n % p) (countIn counts (n / p)) m) refl
+  pub placed-below : x < p → σ < n → placed p n σ x ≡ true
+  placed-below l m = rw (lt-ltb x p l, lt-ltb σ n m) refl
 
-  pub badEntryAt-false : badEntryAt p counts n x ≡ false → EntryFitsAt p counts n x
+  pub badEntryAt-false : badEntryAt p n σ x ≡ false → (x ≡ unmapped) ⊎ ((x < p) × (σ < n))
   badEntryAt-false e = ⊎-elim (λ q. inl (eqb-true _ _ q)) (λ q. inr (placed-true q)) (or-true _ _ (not-false _ e))
 
-  pub badEntryAt-fits : EntryFitsAt p counts n x → badEntryAt p counts n x ≡ false
+  pub badEntryAt-fits : (x ≡ unmapped) ⊎ ((x < p) × (σ < n)) → badEntryAt p n σ x ≡ false
   badEntryAt-fits w = ap not whole
     where
-      whole : (eqb x unmapped || placed p counts n x) ≡ true
+      whole : (eqb x unmapped || placed p n σ x) ≡ true
       whole = ⊎-elim (λ e. rw (eq-eqb x unmapped e) refl) (λ l. or-right (eqb x unmapped) (placed-below (l .0) (l .1))) w

@@ -1,6 +1,6 @@
 -- The starred bench cases of document 01 ("Bench cases"), as document 02 has them, as rows of one table; further rows for what they
 -- leave open, for the limits of a formatting (document 02, P1), for the start place (document 02, P2), for the counts of slices
--- (document 02, P4), for releases (document 02, P5) and for shuffles (document 02, P6). Assumes nothing.
+-- (document 02, P4), for releases (document 02, P5), for shuffles (document 02, P6) and for map blocks (document 02, P7). Assumes nothing.
 use Prim.Native.Nat.{ℕ, _+_, _*_}
 use mathlib.Core.Path.{_≡_}
 use mathlib.Core.Bool.{Bool, true, false}
@@ -14,14 +14,15 @@ use Rattle.model.specs.declared.Session.{Session}
 use Rattle.model.specs.declared.Search.{Search}
 use Rattle.model.specs.declared.Search.the-variants.{Free, Bad, Full}
 use Rattle.model.specs.Geometry.{badGeometry, mapBlocks, headerBlocks, deviceLength, numberAt, fourBytes, cellStart, headerStart, mapStart}
-use Rattle.model.specs.Geometry.{ivStart, blockStart, countIn}
+use Rattle.model.specs.Geometry.{ivStart, blockStart, mapBlockStart, countIn}
 use Rattle.model.specs.Session.{held, startingAt, unmapped, sliceOf, offsetOf, standing, asked, noKeys}
 use Rattle.model.specs.Permutation.{placeOf}
 use Rattle.model.specs.Search.{firstFree}
 use Rattle.model.specs.Opening.{Loaded, Tables, Spoilt, settle, badHeader, withTables, noSession}
-use Rattle.model.specs.Write.{full, claimOutcome, WriteResult}
+use Rattle.model.specs.Write.{full, claimOutcome, WriteResult, writeModel}
+use Rattle.model.specs.Maps.{mapBlockOf, badInBlock}
 use Rattle.model.specs.Release.{ReleaseResult, releaseModel}
-use Rattle.model.specs.Close.{closeRefusal, closedSession}
+use Rattle.model.specs.Close.{CloseResult, closedSession, closeModel}
 use Rattle.model.specs.Format.{formatNeed, formatRefusal}
 use Rattle.model.specs.Shuffle.{limit, shuffleModel}
 use Rattle.model.specs.Answers.{lentNumber, lentList, lentPosition}
@@ -56,6 +57,11 @@ sizes b s p = badGeometry 1 (sized b s p) 0
 abbrev pub inSession : Session → ℕ
 inSession s = standing 52224 60 4 s 0
 
+-- 1 for true, 0 for false.
+abbrev pub bit : Bool → ℕ
+bit true = 1
+bit false = 0
+
 -- The refusal of a formatting of stick A with so many keys, of so many bytes, N = P for each, and a tape of so many.
 abbrev pub formats : (n keys tape : ℕ) → ℕ
 formats n keys tape = formatRefusal 52224 stickA n keys (replicate n 4) tape 0 0
@@ -64,13 +70,22 @@ formats n keys tape = formatRefusal 52224 stickA n keys (replicate n 4) tape 0 0
 abbrev pub formatsWith : (device n : ℕ) → (counts : List ℕ) → ℕ
 formatsWith device n counts = formatRefusal device stickA n (32 * n) counts 60000 0 0
 
--- The refusal of a close with empty maps and k 1, with a tape of so many bytes.
-abbrev pub closing : (tape position : ℕ) → ℕ
-closing tape position = closeRefusal 52224 (held (replicate 60 unmapped) (replicate 4 0) position (session stickA 1)) tape
+-- The number of a close, 0 where served.
+abbrev pub closedBy : CloseResult → ℕ
+closedBy CloseResult.Closed = 0
+closedBy (CloseResult.Refused n) = n
 
--- The refusal of a close of a session with the slice 2 at an index of the map table, all else unmapped.
-abbrev pub closingWith : Session → (n : ℕ) → ℕ
-closingWith s n = closeRefusal 52224 (held (set (replicate 60 unmapped) n 2) (replicate 4 0) 0 s) 60000
+-- A close of a session on a device of n bytes as stick A, with a map table of m entries that name a slice that is none: its number, and
+-- the tape position, which was 7.
+abbrev pub closing : Session → (n m : ℕ) → List ℕ
+closing s n m =
+    let o = closeModel n (held (replicate m 4) (replicate 4 1) 7 s) in
+    closedBy (o .answer) ∷ o .held .position ∷ []
+
+-- 1 where the map block of logical slice σ of volume i has a bad entry, with the number x at index n of the map table of a session and all
+-- else unmapped, else 0.
+abbrev pub blockJudged : Session → (n x i σ : ℕ) → ℕ
+blockJudged s n x i σ = bit (badInBlock (set (replicate (15 * s .geometry .p) unmapped) n x) s i σ)
 
 -- The refusal, 0 for none, of an opening of stick A at entry x of index n, with counts and owners so far.
 abbrev pub refusalOf : Loaded → ℕ
@@ -81,10 +96,6 @@ abbrev pub settles : (counts owners : List ℕ) → (x n : ℕ) → ℕ
 settles counts owners x n = refusalOf (settle 4 counts x n (replicate 60 unmapped) owners Tables)
 
 -- 1 where stick A refuses a header with this N and this S, else 0.
-abbrev pub bit : Bool → ℕ
-bit true = 1
-bit false = 0
-
 abbrev pub header : (n s : ℕ) → ℕ
 header n s = bit (badHeader stickA (replicate 64 0 ++ (fourBytes n ++ fourBytes s)))
 
@@ -106,17 +117,25 @@ sliceFound (Free ψ place) = ψ
 sliceFound (Bad place) = unmapped
 sliceFound Full = unmapped
 
--- A claim with owners, a permutation and a tape of so many bytes, from a start place on: the slice that is found, the answer, and the
--- start place that the claim leaves.
+-- A claim with owners, a permutation and a tape of so many bytes, from a start place on: the slice that is found, the answer, the start
+-- place that the claim leaves, and the tape position, which was 0.
 abbrev pub claimsFrom : (start : ℕ) → (owners perm : List ℕ) → (tape : ℕ) → List ℕ
 claimsFrom start owners perm tape =
     let found = firstFree owners 4 start perm in
     let o = claimOutcome (held (replicate 60 unmapped) owners 0 (startingAt start (session stickA 0))) 0 0 0 [] (replicate tape 0) found in
-    sliceFound found ∷ (shown (o .answer) ++ (o .held .session .start ∷ []))
+    sliceFound found ∷ (shown (o .answer) ++ (o .held .session .start ∷ o .held .position ∷ []))
 
 -- The same in a session that an opening gave which loaded these owners, with this permutation.
 abbrev pub claims : (owners perm : List ℕ) → List ℕ
-claims owners perm = claimsFrom (withTables stickA perm 0 noKeys [] (Tables [] owners) .session .start) owners perm 1024
+claims owners perm = claimsFrom (withTables stickA perm 0 noKeys [] (Tables [] owners) .session .start) owners perm 1040
+
+-- A write of zeros to block a of volume i on stick A with k 1, every slice free, where logical slice 0 of volume 1 maps slice 2 and the
+-- number x stands at index n of the map table, with a tape of so many bytes: the answer, and the tape position, which was 0.
+abbrev pub writes : (n x i a tape : ℕ) → List ℕ
+writes n x i a tape =
+    let h = held (set (set (replicate 60 unmapped) 4 2) n x) (replicate 4 0) 0 (session stickA 1) in
+    let o = writeModel 52224 h i a (replicate 1024 0) (0 ∷ 1 ∷ 2 ∷ 3 ∷ []) (replicate tape 0) in
+    shown (o .answer) ++ (o .held .position ∷ [])
 
 -- The answer of a release: its number, 0 where served, and the slice freed, the mark where refused.
 abbrev pub freed : ReleaseResult → List ℕ
@@ -124,11 +143,14 @@ freed (ReleaseResult.Freed ψ) = 0 ∷ ψ ∷ []
 freed (ReleaseResult.Refused n) = n ∷ unmapped ∷ []
 
 -- A release of logical slice σ of volume i on stick A, with the number ψ at index n of the map table and all else unmapped, every slice
--- held: the answer, the entry at n and the start place afterwards, and the owners.
+-- held, and a tape of so many bytes: the answer, the entry at n, the start place and the tape position afterwards, and the owners.
+abbrev pub releasesOn : (tape : ℕ) → Session → (n ψ i σ : ℕ) → (perm : List ℕ) → List ℕ
+releasesOn tape s n ψ i σ perm =
+    let o = releaseModel 52224 (held (set (replicate 60 unmapped) n ψ) (replicate 4 1) 0 s) i σ perm (replicate tape 0) in
+    freed (o .answer) ++ (getD (o .held .maps) n 0 ∷ o .held .session .start ∷ o .held .position ∷ o .held .owners)
+
 abbrev pub releases : Session → (n ψ i σ : ℕ) → (perm : List ℕ) → List ℕ
-releases s n ψ i σ perm =
-    let o = releaseModel 52224 (held (set (replicate 60 unmapped) n ψ) (replicate 4 1) 0 s) i σ perm in
-    freed (o .answer) ++ (getD (o .held .maps) n 0 ∷ o .held .session .start ∷ o .held .owners)
+releases s n ψ i σ perm = releasesOn 16 s n ψ i σ perm
 
 -- The number alone, of a release of logical slice σ of volume i where slice 2 stands at index 5, which is logical slice 1 of volume 1.
 abbrev pub releaseNumber : Session → (i σ : ℕ) → (perm : List ℕ) → ℕ
@@ -158,33 +180,57 @@ cases =
     -- A: address 15 is served, 16 is 12.
     ∷ row (atAddress (session stickA 0) 0 15 ∷ atAddress (session stickA 0) 0 16 ∷ []) (0 ∷ 12 ∷ [])
     -- Permutation 2 0 3 1, owners free, opened so: slice 2, count 1; the start place is then 1.
-    ∷ row (claims (0 ∷ 0 ∷ 0 ∷ 0 ∷ []) (2 ∷ 0 ∷ 3 ∷ 1 ∷ [])) (2 ∷ 0 ∷ 1 ∷ 1 ∷ [])
+    ∷ row (claims (0 ∷ 0 ∷ 0 ∷ 0 ∷ []) (2 ∷ 0 ∷ 3 ∷ 1 ∷ [])) (2 ∷ 0 ∷ 1 ∷ 1 ∷ 1040 ∷ [])
     -- With 2, 0, 3 held, opened so: slice 1, count 1. All held: 22, count 0 (document 02, P2). The start place is P after both.
-    ∷ row (claims (1 ∷ 0 ∷ 1 ∷ 1 ∷ []) (2 ∷ 0 ∷ 3 ∷ 1 ∷ [])) (1 ∷ 0 ∷ 1 ∷ 4 ∷ [])
-    ∷ row (claims (1 ∷ 1 ∷ 1 ∷ 1 ∷ []) (2 ∷ 0 ∷ 3 ∷ 1 ∷ [])) (unmapped ∷ 22 ∷ 0 ∷ 4 ∷ [])
+    ∷ row (claims (1 ∷ 0 ∷ 1 ∷ 1 ∷ []) (2 ∷ 0 ∷ 3 ∷ 1 ∷ [])) (1 ∷ 0 ∷ 1 ∷ 4 ∷ 1040 ∷ [])
+    ∷ row (claims (1 ∷ 1 ∷ 1 ∷ 1 ∷ []) (2 ∷ 0 ∷ 3 ∷ 1 ∷ [])) (unmapped ∷ 22 ∷ 0 ∷ 4 ∷ 0 ∷ [])
     -- The same two from start place 0, with the counts of document 01, and from 1, the 22 without tape: the places from there on count.
-    ∷ row (claimsFrom 0 (1 ∷ 0 ∷ 1 ∷ 1 ∷ []) (2 ∷ 0 ∷ 3 ∷ 1 ∷ []) 1024) (1 ∷ 0 ∷ 4 ∷ 4 ∷ [])
-    ∷ row (claimsFrom 0 (1 ∷ 1 ∷ 1 ∷ 1 ∷ []) (2 ∷ 0 ∷ 3 ∷ 1 ∷ []) 1024) (unmapped ∷ 22 ∷ 4 ∷ 4 ∷ [])
-    ∷ row (claimsFrom 1 (1 ∷ 0 ∷ 1 ∷ 1 ∷ []) (2 ∷ 0 ∷ 3 ∷ 1 ∷ []) 1024) (1 ∷ 0 ∷ 3 ∷ 4 ∷ [])
-    ∷ row (claimsFrom 1 (1 ∷ 1 ∷ 1 ∷ 1 ∷ []) (2 ∷ 0 ∷ 3 ∷ 1 ∷ []) 0) (unmapped ∷ 22 ∷ 3 ∷ 4 ∷ [])
+    ∷ row (claimsFrom 0 (1 ∷ 0 ∷ 1 ∷ 1 ∷ []) (2 ∷ 0 ∷ 3 ∷ 1 ∷ []) 1040) (1 ∷ 0 ∷ 4 ∷ 4 ∷ 1040 ∷ [])
+    ∷ row (claimsFrom 0 (1 ∷ 1 ∷ 1 ∷ 1 ∷ []) (2 ∷ 0 ∷ 3 ∷ 1 ∷ []) 1040) (unmapped ∷ 22 ∷ 4 ∷ 4 ∷ 0 ∷ [])
+    ∷ row (claimsFrom 1 (1 ∷ 0 ∷ 1 ∷ 1 ∷ []) (2 ∷ 0 ∷ 3 ∷ 1 ∷ []) 1040) (1 ∷ 0 ∷ 3 ∷ 4 ∷ 1040 ∷ [])
+    ∷ row (claimsFrom 1 (1 ∷ 1 ∷ 1 ∷ 1 ∷ []) (2 ∷ 0 ∷ 3 ∷ 1 ∷ []) 0) (unmapped ∷ 22 ∷ 3 ∷ 4 ∷ 0 ∷ [])
     -- From start place 1, slice 0 held: 21 on a tape one byte short, and 5, also without tape, where place 2 holds 9; count 2 in both,
     -- and the start place stays.
-    ∷ row (claimsFrom 1 (1 ∷ 0 ∷ 0 ∷ 0 ∷ []) (2 ∷ 0 ∷ 3 ∷ 1 ∷ []) 1023) (3 ∷ 21 ∷ 2 ∷ 1 ∷ [])
-    ∷ row (claimsFrom 1 (1 ∷ 0 ∷ 0 ∷ 0 ∷ []) (2 ∷ 0 ∷ 9 ∷ 1 ∷ []) 0) (unmapped ∷ 5 ∷ 2 ∷ 1 ∷ [])
+    ∷ row (claimsFrom 1 (1 ∷ 0 ∷ 0 ∷ 0 ∷ []) (2 ∷ 0 ∷ 3 ∷ 1 ∷ []) 1039) (3 ∷ 21 ∷ 2 ∷ 1 ∷ 0 ∷ [])
+    ∷ row (claimsFrom 1 (1 ∷ 0 ∷ 0 ∷ 0 ∷ []) (2 ∷ 0 ∷ 9 ∷ 1 ∷ []) 0) (unmapped ∷ 5 ∷ 2 ∷ 1 ∷ 0 ∷ [])
     -- A 9 at place 0, before the start place, is not met.
-    ∷ row (claimsFrom 1 (1 ∷ 0 ∷ 0 ∷ 0 ∷ []) (9 ∷ 0 ∷ 3 ∷ 1 ∷ []) 1024) (3 ∷ 0 ∷ 2 ∷ 3 ∷ [])
+    ∷ row (claimsFrom 1 (1 ∷ 0 ∷ 0 ∷ 0 ∷ []) (9 ∷ 0 ∷ 3 ∷ 1 ∷ []) 1040) (3 ∷ 0 ∷ 2 ∷ 3 ∷ 1040 ∷ [])
     -- From start place P on there is nothing to look at, although every slice is free.
-    ∷ row (claimsFrom 4 (0 ∷ 0 ∷ 0 ∷ 0 ∷ []) (2 ∷ 0 ∷ 3 ∷ 1 ∷ []) 1024) (unmapped ∷ 22 ∷ 0 ∷ 4 ∷ [])
+    ∷ row (claimsFrom 4 (0 ∷ 0 ∷ 0 ∷ 0 ∷ []) (2 ∷ 0 ∷ 3 ∷ 1 ∷ []) 1040) (unmapped ∷ 22 ∷ 0 ∷ 4 ∷ 0 ∷ [])
+    -- A, the number 4, which is no slice, at logical slice 1 of volume 1: a claim of that volume is 9, also without tape, one of volume 0 is
+    -- served, and so is a rewrite of that volume with 16 tape bytes; the block whose own entry it is is 9 (document 02, P7).
+    ∷ row (writes 5 4 1 8 1040 ++ (writes 5 4 1 8 0 ++ writes 5 4 0 8 1040)) (9 ∷ 0 ∷ 0 ∷ 9 ∷ 0 ∷ 0 ∷ 0 ∷ 1 ∷ 1040 ∷ [])
+    ∷ row (writes 5 4 1 0 16 ++ (writes 5 4 1 0 15 ++ writes 5 4 1 4 1040)) (0 ∷ 0 ∷ 16 ∷ 21 ∷ 0 ∷ 0 ∷ 9 ∷ 0 ∷ 0 ∷ [])
     -- A 22 leaves the tape position.
     ∷ row (full (held [] [] 7 (session stickA 0)) .held .position ∷ []) (7 ∷ [])
     -- A, slice 2 held as logical slice 1 of volume 1: a release frees it; from start place 3 on the start place becomes 0, the place of
     -- slice 2 in 2 0 3 1; where the slice stands at place 3 the start place stays 2 (document 02, P5).
-    ∷ row (releases (startingAt 3 (session stickA 1)) 5 2 1 1 (2 ∷ 0 ∷ 3 ∷ 1 ∷ [])) (0 ∷ 2 ∷ unmapped ∷ 0 ∷ 1 ∷ 1 ∷ 0 ∷ 1 ∷ [])
-    ∷ row (releases (startingAt 2 (session stickA 1)) 5 2 1 1 (0 ∷ 1 ∷ 3 ∷ 2 ∷ [])) (0 ∷ 2 ∷ unmapped ∷ 2 ∷ 1 ∷ 1 ∷ 0 ∷ 1 ∷ [])
+    ∷ row (releases (startingAt 3 (session stickA 1)) 5 2 1 1 (2 ∷ 0 ∷ 3 ∷ 1 ∷ [])) (0 ∷ 2 ∷ unmapped ∷ 0 ∷ 16 ∷ 1 ∷ 1 ∷ 0 ∷ 1 ∷ [])
+    ∷ row (releases (startingAt 2 (session stickA 1)) 5 2 1 1 (0 ∷ 1 ∷ 3 ∷ 2 ∷ [])) (0 ∷ 2 ∷ unmapped ∷ 2 ∷ 16 ∷ 1 ∷ 1 ∷ 0 ∷ 1 ∷ [])
     ∷ row (placeOf 2 (2 ∷ 0 ∷ 3 ∷ 1 ∷ []) ∷ placeOf 3 (2 ∷ 0 ∷ 3 ∷ 1 ∷ []) ∷ placeOf 1 (2 ∷ 0 ∷ 3 ∷ 1 ∷ []) ∷ []) (0 ∷ 2 ∷ 3 ∷ [])
     -- The number 4, which is no slice, is 9 and stays; an unmapped logical slice is 25, also one that neighbours a mapped one.
-    ∷ row (releases (session stickA 1) 5 4 1 1 (2 ∷ 0 ∷ 3 ∷ 1 ∷ [])) (9 ∷ unmapped ∷ 4 ∷ 0 ∷ 1 ∷ 1 ∷ 1 ∷ 1 ∷ [])
-    ∷ row (releases (session stickA 1) 5 2 1 0 (2 ∷ 0 ∷ 3 ∷ 1 ∷ [])) (25 ∷ unmapped ∷ 2 ∷ 0 ∷ 1 ∷ 1 ∷ 1 ∷ 1 ∷ [])
+    ∷ row (releases (session stickA 1) 5 4 1 1 (2 ∷ 0 ∷ 3 ∷ 1 ∷ [])) (9 ∷ unmapped ∷ 4 ∷ 0 ∷ 0 ∷ 1 ∷ 1 ∷ 1 ∷ 1 ∷ [])
+    ∷ row (releases (session stickA 1) 5 2 1 0 (2 ∷ 0 ∷ 3 ∷ 1 ∷ [])) (25 ∷ unmapped ∷ 2 ∷ 0 ∷ 0 ∷ 1 ∷ 1 ∷ 1 ∷ 1 ∷ [])
+    -- With 15 tape bytes it is 21 and stays; without tape an unmapped logical slice is 25, one beside the number 4 is 9 (document 02, P7).
+    ∷ row (releasesOn 15 (session stickA 1) 5 2 1 1 (2 ∷ 0 ∷ 3 ∷ 1 ∷ [])) (21 ∷ unmapped ∷ 2 ∷ 0 ∷ 0 ∷ 1 ∷ 1 ∷ 1 ∷ 1 ∷ [])
+    ∷ row (releasesOn 0 (session stickA 1) 5 2 1 0 (2 ∷ 0 ∷ 3 ∷ 1 ∷ [])) (25 ∷ unmapped ∷ 2 ∷ 0 ∷ 0 ∷ 1 ∷ 1 ∷ 1 ∷ 1 ∷ [])
+    ∷ row (releasesOn 0 (session stickA 1) 5 4 1 0 (2 ∷ 0 ∷ 3 ∷ 1 ∷ [])) (9 ∷ unmapped ∷ 4 ∷ 0 ∷ 0 ∷ 1 ∷ 1 ∷ 1 ∷ 1 ∷ [])
+    -- B 1,024, P 253: the entries of logical slices 0 and 251 of volume 1 stand in the map block at device block 5, that of 252 in the one
+    -- at 6 (document 02, P7).
+    ∷ row
+    (mapBlockOf (sized 1024 4 253) 0 ∷ mapBlockOf (sized 1024 4 253) 251 ∷ mapBlockOf (sized 1024 4 253) 252
+    ∷ mapBlockStart (sized 1024 4 253) 1 0 ∷ mapBlockStart (sized 1024 4 253) 1 1 ∷ [])
+    (0 ∷ 0 ∷ 1 ∷ (5 * 1024) ∷ (6 * 1024) ∷ [])
+    -- The number 253, which is no slice, at logical slice 251 of volume 0 is bad for a claim or a release of logical slices 0 and 251, and
+    -- not of 252 or of volume 1; at logical slice 252 the other way round.
+    ∷ row
+    (blockJudged (session (sized 1024 4 253) 1) 251 253 0 0 ∷ blockJudged (session (sized 1024 4 253) 1) 251 253 0 251
+    ∷ blockJudged (session (sized 1024 4 253) 1) 251 253 0 252 ∷ blockJudged (session (sized 1024 4 253) 1) 251 253 1 0 ∷ [])
+    (1 ∷ 1 ∷ 0 ∷ 0 ∷ [])
+    ∷ row
+    (blockJudged (session (sized 1024 4 253) 1) 252 253 0 0 ∷ blockJudged (session (sized 1024 4 253) 1) 252 253 0 251
+    ∷ blockJudged (session (sized 1024 4 253) 1) 252 253 0 252 ∷ blockJudged (session (sized 1024 4 253) 1) 252 253 1 252 ∷ [])
+    (0 ∷ 0 ∷ 1 ∷ 0 ∷ [])
     -- N 2 of volume 1: logical slice 1 is freed, 2 is 12; volume 2 is 11 in a session with k 1, also at a logical slice above its N.
     ∷ row
     (releaseNumber (counting 1 1 2) 1 1 (2 ∷ 0 ∷ 3 ∷ 1 ∷ []) ∷ releaseNumber (counting 1 1 2) 1 2 (2 ∷ 0 ∷ 3 ∷ 1 ∷ [])
@@ -247,10 +293,11 @@ cases =
     (0 ∷ 9 ∷ 9 ∷ 0 ∷ 0 ∷ 9 ∷ [])
     -- A slice that is held is 10; at or past N it is 9 before that.
     ∷ row (settles (4 ∷ 2 ∷ []) (replicate 4 1) 2 5 ∷ settles (4 ∷ 2 ∷ []) (replicate 4 1) 2 6 ∷ []) (10 ∷ 9 ∷ [])
-    -- The same at a close: entry 2 of volume 1 with N 3 and 2, entry 3 of volume 0; above k nothing is said of an entry.
+    -- The same in the map block of a claim or a release: slice 2 at entry 2 of volume 1 with N 3 and 2, and at entry 3 of volume 0.
     ∷ row
-    (closingWith (counting 1 1 3) 6 ∷ closingWith (counting 1 1 2) 6 ∷ closingWith (counting 1 1 2) 3 ∷ closingWith (counting 0 1 2) 6 ∷ [])
-    (0 ∷ 9 ∷ 0 ∷ 0 ∷ [])
+    (blockJudged (counting 1 1 3) 6 2 1 0 ∷ blockJudged (counting 1 1 2) 6 2 1 0 ∷ blockJudged (counting 1 1 2) 3 2 0 0
+    ∷ blockJudged (counting 1 1 2) 6 unmapped 1 0 ∷ [])
+    (0 ∷ 1 ∷ 0 ∷ 0 ∷ [])
     -- A close leaves the counts; a refused opening has 15 zeros.
     ∷ row (countIn (closedSession (counting 1 1 3) .counts) 1 ∷ countIn (startingAt 2 (counting 1 1 3) .counts) 1 ∷ []) (3 ∷ 3 ∷ [])
     ∷ row (noSession .counts) (replicate 15 0)
@@ -266,8 +313,11 @@ cases =
     -- k 14 is allowed, 15 is 20; so is a geometry that is not allowed, and a closed session.
     ∷ row (inSession (session stickA 14) ∷ inSession (session stickA 15) ∷ []) (0 ∷ 20 ∷ [])
     ∷ row (inSession (session (sized 1024 65 4) 0) ∷ inSession (closedSession (session stickA 0)) ∷ []) (20 ∷ 20 ∷ [])
-    -- A, k = 1: a close with 31 tape bytes is 21, with 32 served; the position past the end is 21 too.
-    ∷ row (closing 31 0 ∷ closing 32 0 ∷ closing 32 33 ∷ []) (21 ∷ 0 ∷ 21 ∷ [])
+    -- A: a close is served whatever the entries are, and leaves the position; 20 comes before 2, and 2 before 4 (document 02, P7).
+    ∷ row (closing (session stickA 1) 52224 60) (0 ∷ 7 ∷ [])
+    ∷ row
+    (closing (closedSession (session stickA 1)) 52223 59 ++ (closing (session stickA 1) 52223 59 ++ closing (session stickA 1) 52224 59))
+    (20 ∷ 7 ∷ 2 ∷ 7 ∷ 4 ∷ 7 ∷ [])
     -- Numbers are four bytes, most significant first, and the mark is four bytes FF.
     ∷ row (numberAt 1 (9 ∷ 1 ∷ 2 ∷ 3 ∷ 4 ∷ 9 ∷ []) ∷ fourBytes 0x01020304) (0x01020304 ∷ 1 ∷ 2 ∷ 3 ∷ 4 ∷ [])
     ∷ row (fourBytes unmapped) (replicate 4 0xFF)

@@ -1,5 +1,5 @@
 -- The facts behind the refusals, in the words of document 01 ("Refused for ..") and document 02 (P2, the start place; P4, the counts; P6,
--- the draws of a shuffle). Assumes nothing.
+-- the draws of a shuffle; P7, the map block of an entry). Assumes nothing.
 use Prim.Native.Nat.{ℕ, suc, _+_, _-_, _*_, _/_, _%_, _≤_, _<_}
 use mathlib.Core.Path.{_≡_}
 use mathlib.Core.Logic.{_⊎_}
@@ -9,8 +9,8 @@ use lib.ListN.{length, getD}
 use Rattle.model.specs.declared.Geometry.{Geometry}
 use Rattle.model.specs.declared.Session.{Session}
 use Rattle.model.specs.Parts.{part}
-use Rattle.model.specs.Geometry.{Allowed, countIn}
-use Rattle.model.specs.Session.{unmapped}
+use Rattle.model.specs.Geometry.{Allowed, countIn, perBlock}
+use Rattle.model.specs.Session.{countOf, entry, unmapped}
 
 -- N is 1 to P, and so is each of the first n counts (8, 20, at formatting 1; document 02, P4).
 abbrev pub CountFits : (p n : ℕ) → Type 0
@@ -40,13 +40,16 @@ TablesFit g maps owners = (maps ≡ 15 * g .p) × (owners ≡ g .p)
 abbrev pub EntryFits : Geometry → ℕ → Type 0
 EntryFits g x = (x ≡ unmapped) ⊎ (x < g .p)
 
--- Index n of the map table, which is logical slice n % P of volume n / P, stands below the volume's N (document 02, P4).
+-- Index n of the map table, which is logical slice n % P of volume n / P, stands below the volume's N (9 at opening; document 02, P4).
 abbrev pub BelowCount : (p : ℕ) → (counts : List ℕ) → (n : ℕ) → Type 0
 BelowCount p counts n = n % p < countIn counts (n / p)
 
--- The entry there is the mark, or a slice that stands below N (9 at opening and close; document 02, P4).
-abbrev pub EntryFitsAt : (p : ℕ) → (counts : List ℕ) → (n x : ℕ) → Type 0
-EntryFitsAt p counts n x = (x ≡ unmapped) ⊎ ((x < p) × BelowCount p counts n)
+-- Every entry that stands in one map block with that of logical slice σ of volume i is the mark, or a slice that stands below N (9 of a
+-- claim and of a release; document 02, P7).
+abbrev pub BlockFits : (maps : List ℕ) → Session → (i σ : ℕ) → Type 0
+BlockFits maps s i σ =
+    (τ : ℕ) → τ < s .geometry .p → τ / perBlock (s .geometry) ≡ σ / perBlock (s .geometry)
+    → (entry maps (s .geometry) i τ ≡ unmapped) ⊎ ((entry maps (s .geometry) i τ < s .geometry .p) × (τ < countOf s i))
 
 -- A tape has n bytes from a position on (21).
 abbrev pub Enough : (tape position n : ℕ) → Type 0

@@ -12,7 +12,7 @@ use Rattle.model.specs.Parts.{part, Patch, patched}
 use Rattle.model.specs.Geometry.{badGeometry, countIn, anyBadCount, deviceLength, mapBlocks, fourBytes, cellStart, headerStart, mapStart}
 use Rattle.model.specs.Session.{LentResult, Served, Refused, keyIn, short, unless}
 use Rattle.model.specs.Opening.{Cell, At, NoCell, firstCell, noMaps}
-use Rattle.model.specs.Close.{mapBytes}
+use Rattle.model.specs.Maps.{mapBytes}
 
 -- ---- what is drawn: the whole device, VMK and VEK of each volume, the IV of each cell, the IVs of each header and its map
 

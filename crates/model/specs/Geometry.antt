@@ -91,6 +91,10 @@ headerOf g device i = part (headerStart g i) (g .b * (1 + mapBlocks g)) device
 unfoldable pub mapStart : Geometry → ℕ → ℕ
 mapStart g i = headerStart g i + g .b
 
+-- Map block t of volume i.
+abbrev pub mapBlockStart : Geometry → (i t : ℕ) → ℕ
+mapBlockStart g i t = mapStart g i + g .b * t
+
 -- ---- slices
 
 -- Slice ψ: its IV block, then S data blocks.

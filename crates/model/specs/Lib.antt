@@ -12,6 +12,8 @@
 --   entry            what the map table or a header's map holds for a logical slice: a slice's number or the mark. `entry` is that of
 --                    logical slice σ of volume i in a table, `entryOf` that of a block address, `storedEntry` the one in a header's map
 --                    blocks, `mapEntries` all of these by their index in the table
+--   map block        one of the m blocks of a volume that hold its entries on the device; `mapBlockOf` is the number of the one that has
+--                    the entry of a logical slice
 --   offset j         the number of a data block in its slice
 --   owner            0 for a free slice, i + 1 for one that volume i holds
 --   VMK, VEK         the master key and the data key of a volume
@@ -19,12 +21,13 @@
 --   drawn            the tape bytes of a formatting as one list, of which the device's noise, each key and each IV is a part
 --   slice freed      the slice that a release gives back: `Freed`; its place is the one that names it in the permutation, `placeOf`
 --
--- A refusal is its number in the documents, 0 where none applies. What a write, a release or a close does to the device is a list of
--- patches (place and bytes), made from its arguments and the device's length alone; a formatting gives the device whole.
+-- A refusal is its number in the documents, 0 where none applies. What a write or a release does to the device is a list of patches
+-- (place and bytes), made from its arguments and the device's length alone; a formatting gives the device whole, a shuffle its list.
 pub mod Parts
 pub mod Geometry
 pub mod Permutation
 pub mod Session
+pub mod Maps
 pub mod Search
 pub mod Opening
 pub mod Conditions

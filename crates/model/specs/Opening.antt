@@ -10,7 +10,7 @@ use Rattle.gcm.specs.Gcm.{Opened, Text, WrongTag, gcmOpen}
 use Rattle.model.specs.declared.Geometry.{Geometry}
 use Rattle.model.specs.declared.Session.{Session}
 use Rattle.model.specs.Parts.{choose, part}
-use Rattle.model.specs.Geometry.{badGeometry, badCount, deviceLength, perBlock, numberAt, cellOf, headerOf}
+use Rattle.model.specs.Geometry.{badGeometry, badCount, countIn, deviceLength, perBlock, numberAt, cellOf, headerOf}
 use Rattle.model.specs.Permutation.{badPermutation}
 use Rattle.model.specs.Session.{unmapped, placed, unless, keyIn, noKeys, noCounts}
 use Rattle.model.specs.Search.{firstFree, startPlace}
@@ -96,7 +96,7 @@ pub data Loaded : Type 0 where
 abbrev pub settle : (p : ℕ) → (counts : List ℕ) → (x n : ℕ) → (maps owners : List ℕ) → (List ℕ → List ℕ → Loaded) → Loaded
 settle p counts x n maps owners next =
     choose (eqb x unmapped) (next maps owners)
-    (choose (placed p counts n x)
+    (choose (placed p (countIn counts (n / p)) (n % p) x)
     (choose (eqb (getD owners x 0) 0) (next (set maps n x) (set owners x (n / p + 1))) (Spoilt 10))
     (Spoilt 9))
 

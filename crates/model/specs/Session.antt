@@ -72,14 +72,14 @@ entryOf maps g i a = entry maps g i (sliceOf g a)
 abbrev pub badEntry : ℕ → ℕ → Bool
 badEntry p x = not (eqb x unmapped || ltb x p)
 
--- The entry at index n of a map table, which is that of logical slice n % P of volume n / P: a slice stands there where it is below P
--- and the logical slice is below the volume's N (document 02, P4).
-abbrev pub placed : (p : ℕ) → (counts : List ℕ) → (n x : ℕ) → Bool
-placed p counts n x = ltb x p && ltb (n % p) (countIn counts (n / p))
+-- An entry x of logical slice σ, in a volume of n logical slices, is a slice that may stand there: it is below P, and σ below n
+-- (document 02, P4).
+abbrev pub placed : (p n σ x : ℕ) → Bool
+placed p n σ x = ltb x p && ltb σ n
 
--- It is bad where it is neither the mark nor such a slice.
-abbrev pub badEntryAt : (p : ℕ) → (counts : List ℕ) → (n x : ℕ) → Bool
-badEntryAt p counts n x = not (eqb x unmapped || placed p counts n x)
+-- It is bad there where it is neither the mark nor such a slice.
+abbrev pub badEntryAt : (p n σ x : ℕ) → Bool
+badEntryAt p n σ x = not (eqb x unmapped || placed p n σ x)
 
 -- ---- refusals: the first whose condition holds, 0 for none
 
@@ -101,17 +101,13 @@ standing device maps owners s rest =
 abbrev pub askedVolume : (k i rest : ℕ) → ℕ
 askedVolume k i rest = refuse (ltb k i) 11 rest
 
--- 9, of the asked entry alone: that of logical slice σ, which is below N where 12 does not apply.
-abbrev pub askedEntry : (maps : List ℕ) → Geometry → (i σ rest : ℕ) → ℕ
-askedEntry maps g i σ rest = refuse (badEntry (g .p) (entry maps g i σ)) 9 rest
-
--- 11, 12 (at or above N × S), 13 (of a buffer or text len bytes long) and 9, of an asked block.
+-- 11, 12 (at or above N × S), 13 (of a buffer or text len bytes long) and 9 (the asked entry alone), of an asked block.
 unfoldable pub asked : (maps : List ℕ) → Session → (i a len : ℕ) → ℕ
 asked maps s i a len =
     askedVolume (s .k) i
     (refuse (leb (blockCount s i) a) 12
     (refuse (not (eqb len (s .geometry .b))) 13
-    (askedEntry maps (s .geometry) i (sliceOf (s .geometry) a)
+    (refuse (badEntry (s .geometry .p) (entryOf maps (s .geometry) i a)) 9
     0)))
 
 -- 21: the position past the end of a tape, or fewer bytes left than needed.

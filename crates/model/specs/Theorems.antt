@@ -30,7 +30,8 @@ use Rattle.model.specs.Opening.{OpenResult, OpenTo, NotOpened, OpenOutco
 use Rattle.model.specs.Read.{deciphered, Filled, Refused}
 use Rattle.model.specs.Write.{WriteResult, claimedBytes, claimed}
 use Rattle.model.specs.Release.{ReleaseResult, released}
-use Rattle.model.specs.Close.{CloseResult, mapBlock}
+use Rattle.model.specs.Maps.{mapBlock}
+use Rattle.model.specs.Close.{CloseResult}
 use Rattle.model.specs.Format.{lowerOpens}
 use Rattle.model.specs.Shuffle.{ordering, draws, Accepted, run}
 use Rattle.model.specs.Answers.{openResult, changeSlice, writeResult, releaseResult, closeResult, readNumber, readBuffer, OpenLeaves}
@@ -180,10 +181,10 @@ pub record ModelLaws : Type 0 where
   pub place : (p : ℕ) (perm : List ℕ) (ψ : ℕ) → Names p perm → ψ < p
       → (placeOf ψ perm < p) × (sliceAt perm (placeOf ψ perm) ≡ ψ) × ((n : ℕ) → n < p → sliceAt perm n ≡ ψ → n ≡ placeOf ψ perm)
   -- A release leaves its entry unmapped and its slice free, and every other entry and owner as it was.
-  pub released-entry : (h : Held) (i σ ψ place n : ℕ) → n < length (h .maps)
-      → getD (released h i σ ψ place .held .maps) n 0 ≡ choose (eqb n (slot (geometry h) i σ)) unmapped (getD (h .maps) n 0)
-  pub released-owner : (h : Held) (i σ ψ place φ : ℕ) → φ < length (h .owners)
-      → getD (released h i σ ψ place .held .owners) φ 0 ≡ choose (eqb φ ψ) 0 (getD (h .owners) φ 0)
+  pub released-entry : (h : Held) (i σ ψ place : ℕ) (tape : List ℕ) (n : ℕ) → n < length (h .maps)
+      → getD (released h i σ ψ place tape .held .maps) n 0 ≡ choose (eqb n (slot (geometry h) i σ)) unmapped (getD (h .maps) n 0)
+  pub released-owner : (h : Held) (i σ ψ place : ℕ) (tape : List ℕ) (φ : ℕ) → φ < length (h .owners)
+      → getD (released h i σ ψ place tape .held .owners) φ 0 ≡ choose (eqb φ ψ) 0 (getD (h .owners) φ 0)
   -- The ordering of draws names each slice, and is what the exchanges make of the slices in order.
   pub ordering-names : (p : ℕ) (ds : List ℕ) → Names p (ordering p ds)
   pub ordering-shuffles : (p : ℕ) (ds : List ℕ) → length ds ≡ p - 1 → Shuffles p ds (ordering p ds)

@@ -1,4 +1,4 @@
--- Write (document 01, "Write"; document 02, P2). A write looks at no byte of the device, only at its length. Assumes nothing.
+-- Write (document 01, "Write"; document 02, P2 and P7). A write looks at no byte of the device, only at its length. Assumes nothing.
 use Prim.Native.Nat.{ℕ, _+_, _-_, _*_}
 use mathlib.Core.List.{List, [], _∷_, _++_}
 use mathlib.Core.Bool.{not}
@@ -6,6 +6,7 @@ use lib.ListN.{length, set, replicate}
 use lib.Dec.{ltb, eqb}
 use Rattle.refusals.specs.Numbers.{refuse}
 use Rattle.ctr.specs.CounterMode.{ctr}
+use Rattle.model.specs.declared.Geometry.{Geometry}
 use Rattle.model.specs.declared.Session.{Session}
 use Rattle.model.specs.declared.Change.{Change}
 use Rattle.model.specs.declared.Change.the-variants.{Claimed, Rewritten}
@@ -14,6 +15,7 @@ use Rattle.model.specs.declared.Search.the-variants.{Free, Bad, Full}
 use Rattle.model.specs.Parts.{choose, part, joined}
 use Rattle.model.specs.Geometry.{sliceStart, ivStart, blockStart}
 use Rattle.model.specs.Search.{firstFree}
+use Rattle.model.specs.Maps.{mapPatch, badInBlock}
 use Rattle.model.specs.Session.{Held, Outcome, geometry, keyOf, startingAt, slot, sliceOf, offsetOf, entryOf}
 use Rattle.model.specs.Session.{standing, asked, short, unless, idle}
 
@@ -49,9 +51,13 @@ rewriteOutcome h i ψ j text tape =
 unfoldable pub claimedBytes : (b s : ℕ) → (key ivs : List ℕ) → (j : ℕ) → (text : List ℕ) → List ℕ
 claimedBytes b s key ivs j text = ivs ++ joined s (λ n. ctr key (part (16 * n) 16 ivs) (choose (eqb n j) text (replicate b 0)))
 
+-- The tape bytes of a claim: B for the IV block, then 16 for the IV of the map block (document 02, P7).
+abbrev pub claimNeed : Geometry → ℕ
+claimNeed g = g .b + 16
+
 -- Unmapped: slice ψ, found at a place, is claimed for logical slice σ of volume i. Its owner is set in the same call that
 -- found it free, so that no later claim can find it free. The start place becomes the claimed place plus one
--- (document 02, P2).
+-- (document 02, P2), and the map block that has the entry is stored, with it, under the IV drawn last (document 02, P7).
 abbrev pub claimed : Held → (i σ j ψ place : ℕ) → (text tape : List ℕ) → Outcome WriteResult
 claimed h i σ j ψ place text tape =
     record {
@@ -61,12 +67,13 @@ claimed h i σ j ψ place text tape =
             at = sliceStart (geometry h) ψ;
             bytes = claimedBytes (geometry h .b) (geometry h .s) (keyOf (h .session) i) (part (h .position) (geometry h .b) tape) j text;
           }
+          ∷ mapPatch (set (h .maps) (slot (geometry h) i σ) ψ) (h .session) i σ (part (h .position + geometry h .b) 16 tape)
           ∷ [];
       held =
           record {
             maps = set (h .maps) (slot (geometry h) i σ) ψ;
             owners = set (h .owners) ψ (i + 1);
-            position = h .position + geometry h .b;
+            position = h .position + claimNeed (geometry h);
             session = startingAt (place + 1) (h .session);
           };
     }
@@ -86,7 +93,7 @@ abbrev pub claimOutcome : Held → (i σ j : ℕ) → (text tape : List ℕ) →
 claimOutcome h i σ j text tape (Bad place) = idle h (Refused 5 (probesTo (h .session) place))
 claimOutcome h i σ j text tape Full = full h
 claimOutcome h i σ j text tape (Free ψ place) =
-    choose (short (length tape) (h .position) (geometry h .b)) (idle h (Refused 21 (probesTo (h .session) place)))
+    choose (short (length tape) (h .position) (claimNeed (geometry h))) (idle h (Refused 21 (probesTo (h .session) place)))
     (claimed h i σ j ψ place text tape)
 
 -- ---- the call
@@ -96,11 +103,13 @@ unfoldable pub writeRefusal : (device : ℕ) → (maps owners : List ℕ) → Se
 writeRefusal device maps owners s i a len perm =
     standing device (length maps) (length owners) s (refuse (not (eqb perm (s .geometry .p))) 5 (asked maps s i a len))
 
--- Write of block address a of volume i, on a device of so many bytes.
+-- Write of block address a of volume i, on a device of so many bytes: a rewrite where the entry is a slice, else a claim, refused by 9 for a
+-- bad entry anywhere in the map block (document 02, P7) before its search.
 unfoldable pub writeModel : (device : ℕ) → Held → (i a : ℕ) → (text perm tape : List ℕ) → Outcome WriteResult
 writeModel device h i a text perm tape =
     unless (writeRefusal device (h .maps) (h .owners) (h .session) i a (length text) (length perm)) (λ n. idle h (Refused n 0))
     (choose (ltb (entryOf (h .maps) (geometry h) i a) (geometry h .p))
     (rewriteOutcome h i (entryOf (h .maps) (geometry h) i a) (offsetOf (geometry h) a) text tape)
+    (choose (badInBlock (h .maps) (h .session) i (sliceOf (geometry h) a)) (idle h (Refused 9 0))
     (claimOutcome h i (sliceOf (geometry h) a) (offsetOf (geometry h) a) text tape
-    (firstFree (h .owners) (geometry h .p) (h .session .start) perm)))
+    (firstFree (h .owners) (geometry h .p) (h .session .start) perm))))

@@ -1,11 +1,12 @@
-// What the requests of a session share: their refusals for what is wrong with the session, the device and the tables, and with
-// the volume, the block or the entry that is asked for; and the session with another start place. Refusals are tested in the
-// order of documents 01 and 02; a call adds its own before, between or behind them.
+// What the requests of a session share: their refusals for what is wrong with the session, the device and the tables, with the
+// volume, the block or the entry that is asked for, and with the entry's map block; and the session with another start place.
+// Refusals are tested in the order of documents 01 and 02; a call adds its own before, between or behind them.
 ghost use mathlib.Core.Path.{_≡_};
-ghost use Prim.Native.Nat.{_*_, _≤_, _<_};
+ghost use Prim.Native.Nat.{_*_, _≤_, _<_, min};
 ghost use lib.ListN.{length};
-ghost use Rattle.refusals.specs.Numbers.{answerNumber};
-ghost use Rattle.model.specs.Session.{startingAt, blockCount, slot, standing, askedVolume, askedEntry, asked};
+ghost use Rattle.refusals.specs.Numbers.{answerNumber, refuse};
+ghost use Rattle.model.specs.Session.{startingAt, blockCount, slot, entry, badEntry, standing, askedVolume, asked};
+ghost use Rattle.model.specs.Maps.{badInBlock};
 ghost use Rattle.model.specs.Conditions.{Usable};
 use model::Geometry;
 use model::Session;
@@ -57,10 +58,10 @@ pub fn check_volume(k: usize, volume: usize) -> Answer
     Answer::Served
 }
 
-// 9, of the entry of a logical slice.
-pub fn check_entry(maps: &[u32], g: Geometry, volume: usize, logical: usize) -> Answer
+// 9, of the entry of a logical slice alone.
+fn check_entry(maps: &[u32], g: Geometry, volume: usize, logical: usize) -> Answer
     requires { ⌜ slot g volume logical < length (now maps) ⌝ }
-    ensures { λ r. ⌜ answerNumber r ≡ askedEntry (now (maps .entry)) g volume logical 0 ⌝ }
+    ensures { λ r. ⌜ answerNumber r ≡ refuse (badEntry (g .p) (entry (now (maps .entry)) g volume logical)) 9 0 ⌝ }
 {
     let entry = tables::entry_at(maps, g, volume, logical);
     if entry != tables::UNMAPPED {
@@ -69,6 +70,30 @@ pub fn check_entry(maps: &[u32], g: Geometry, volume: usize, logical: usize) -> 
         }
     }
     Answer::Served
+}
+
+// The lower of two numbers.
+pub fn lower(a: usize, b: usize) -> usize
+    ensures { λ r. ⌜ r ≡ min a b ⌝ }
+{
+    if a <= b {
+        return a;
+    }
+    b
+}
+
+// 9, of the map block that has the entry of a logical slice: whether one of its entries is neither the mark nor a slice that stands
+// below the volume's count (document 02, P7). In the last block the entries end at P.
+pub fn is_block_bad(maps: &[u32], session: Session, volume: usize, logical: usize) -> bool
+    requires { ⌜ Usable session × (length (now maps) ≡ 15 * session .geometry .p) × (volume ≤ session .k) × (logical < session .geometry .p) ⌝ }
+    ensures { λ r. ⌜ r ≡ badInBlock (now (maps .entry)) session volume logical ⌝ }
+{
+    let g = session.geometry;
+    let counts = session.counts;
+    let per_block = places::entries_per_block(g);
+    let first = logical / per_block * per_block;
+    let n = lower(per_block, g.p - first);
+    tables::any_bad(maps, g, volume, counts[volume], first, n)
 }
 
 // The blocks of an open volume: N × S (document 02, P4).

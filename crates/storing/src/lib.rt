@@ -1,15 +1,16 @@
-// What a write stores and leaves once it is decided: a block rewritten, a slice claimed, or nothing.
+// What a write stores and leaves once it is decided: a block rewritten, a slice claimed and its map block stored, or nothing.
 //
 // `carry_out` takes the decision (`deciding::decide`) and the tape bytes that it needs, and sees no tape. All tests are made before
 // it, and it asks for what they have shown.
 ghost use mathlib.Core.Path.{_≡_};
 ghost use Prim.Native.Nat.{_+_, _-_, _*_, _≤_, _<_};
-ghost use lib.ListN.{length};
+ghost use lib.ListN.{length, set};
 ghost use Rattle.refusals.specs.declared.Refusal.the-variants.{NoFreeSlice};
 ghost use Rattle.ctr.specs.CounterMode.{ctr};
 ghost use Rattle.model.specs.Parts.{overlay};
-ghost use Rattle.model.specs.Geometry.{Allowed, deviceLength, sliceStart, ivStart, blockStart};
-ghost use Rattle.model.specs.Session.{held, startingAt};
+ghost use Rattle.model.specs.Geometry.{Allowed, deviceLength, mapBlockStart, sliceStart, ivStart, blockStart};
+ghost use Rattle.model.specs.Session.{held, startingAt, slot};
+ghost use Rattle.model.specs.Maps.{mapBlock, mapBlockOf};
 ghost use Rattle.model.specs.Write.{WriteResult, claimedBytes};
 ghost use Rattle.model.specs.Answers.{writeResult, Leaves};
 ghost use Rattle.deciding.specs.Decided.{needed, carried, Ready};
@@ -76,7 +77,32 @@ fn claim(
     }
 }
 
-// What was decided is carried out, with the tape bytes that it needs drawn.
+// A slice given to a logical slice of a volume: its entry and its owner are set, then the map block that has the entry is stored, made
+// from the map table with it (document 02, P7).
+fn enter(
+    device: &mut [u8],
+    maps: &mut [u32],
+    owners: &mut [u8],
+    g: Geometry,
+    key: &[u8],
+    iv: &[u8],
+    volume: usize,
+    logical: usize,
+    slice: usize,
+)
+    requires { ⌜ Allowed g × (length (now device) ≡ deviceLength g) × (length (now maps) ≡ 15 * g .p) × (length (now owners) ≡ g .p)
+        × (length (now key) ≡ 32) × (length (now iv) ≡ 16) × (volume ≤ 14) × (logical < g .p) × (slice < g .p) ⌝ }
+    ensures stored { λ r. ⌜ now (device .exit) ≡ overlay (now (device .entry)) (mapBlockStart g volume (mapBlockOf g logical))
+        (mapBlock (set (now (maps .entry)) (slot g volume logical) slice) g (now (key .entry)) volume (mapBlockOf g logical) (now (iv .entry))) ⌝ }
+    ensures mapped { λ r. ⌜ now (maps .exit) ≡ set (now (maps .entry)) (slot g volume logical) slice ⌝ }
+    ensures owned { λ r. ⌜ now (owners .exit) ≡ set (now (owners .entry)) slice (volume + 1) ⌝ }
+{
+    tables::assign(maps, owners, g, volume, logical, slice);
+    mapping::store_block_of(device, maps, g, key, iv, volume, logical);
+}
+
+// What was decided is carried out, with the tape bytes that it needs drawn. The first B of a claim's are its IV block, and the last 16 the
+// IV of the map block that has its entry.
 //
 // No claim can take a slice that another volume holds: the slice is the model's `firstFree` of the owner table as it
 // stands at entry (clause `answered`), and the same call sets its owner (clause `owned`), so that the next claim's search
@@ -111,8 +137,20 @@ pub fn carry_out(
         Decision::Claim { slice, place } => {
             let keys = session.keys;
             let key = places::key_in(&keys, volume);
-            claim(device, g, key, drawn, slice, address % g.s, text);
-            tables::assign(maps, owners, g, volume, address / g.s, slice);
+            let b = g.b;
+            let end = b + 16;
+            claim(device, g, key, &drawn[0..b], slice, address % g.s, text);
+            enter(
+                device,
+                maps,
+                owners,
+                g,
+                key,
+                &drawn[b..end],
+                volume,
+                address / g.s,
+                slice,
+            );
             let looked = deciding::probes_to(session, place);
             served(
                 Change::Claimed(slice),

@@ -3,11 +3,11 @@ ghost use mathlib.Core.Path.{_≡_};
 ghost use Prim.Native.Nat.{_+_, _*_, _≤_, _<_};
 ghost use lib.ListN.{length, replicate, set};
 ghost use Rattle.refusals.specs.Numbers.{answerNumber};
-ghost use Rattle.model.specs.Session.{slot, entry, unmapped, placed};
+ghost use Rattle.model.specs.Parts.{anyBelow};
+ghost use Rattle.model.specs.Session.{slot, entry, unmapped, placed, badEntryAt};
 ghost use Rattle.model.specs.Permutation.{missing, badPermutation, placeOf};
 ghost use Rattle.model.specs.Opening.{settle, Tables};
 ghost use Rattle.model.specs.Search.{firstFree, startPlace};
-ghost use Rattle.model.specs.Close.{anyBad};
 ghost use Rattle.tables.specs.Flagged.{flagged, anyZero};
 ghost use Rattle.tables.specs.Settled.{Settled};
 use model::Geometry;
@@ -40,29 +40,36 @@ pub fn unmap(maps: &mut [u32])
     }
 }
 
-// Whether a slice may stand at index i of the map table: it is below p, and its logical slice below the volume's count
-// (document 02, P4).
-fn is_placed(counts: &[usize], p: usize, i: usize, slice: usize) -> bool
-    requires { ⌜ (length (now counts) ≡ 15) × (i < 15 * p) ⌝ }
-    ensures { λ r. ⌜ r ≡ placed p (now (counts .entry)) i slice ⌝ }
+// Whether a slice may stand as the entry of a logical slice, in a volume with a count of them: it is below p, and the logical slice
+// below the count (document 02, P4).
+fn is_placed(p: usize, count: usize, logical: usize, slice: usize) -> bool
+    ensures { λ r. ⌜ r ≡ placed p count logical slice ⌝ }
 {
-    slice < p && i % p < counts[i / p]
+    slice < p && logical < count
 }
 
-// Whether one of the first n entries is neither the mark nor a slice that may stand there.
-pub fn any_bad(maps: &[u32], counts: &[usize], p: usize, n: usize) -> bool
-    requires { ⌜ (n ≤ length (now maps)) × (length (now counts) ≡ 15) × (n ≤ 15 * p) ⌝ }
-    ensures { λ r. ⌜ r ≡ anyBad p (now (counts .entry)) (now (maps .entry)) n ⌝ }
+// Whether one of n entries of a volume, from that of a logical slice on, is neither the mark nor a slice that may stand there.
+pub fn any_bad(
+    maps: &[u32],
+    g: Geometry,
+    volume: usize,
+    count: usize,
+    first: usize,
+    n: usize,
+) -> bool
+    requires { ⌜ slot g volume first + n ≤ length (now maps) ⌝ }
+    ensures { λ r. ⌜ r ≡ anyBelow (λ e. badEntryAt (g .p) count (first + e) (entry (now (maps .entry)) g volume (first + e))) n ⌝ }
 {
-    let mut i = 0;
-    while i < n {
-        let entry = maps[i] as usize;
+    let mut e = 0;
+    while e < n {
+        let logical = first + e;
+        let entry = entry_at(maps, g, volume, logical);
         if entry != UNMAPPED {
-            if !is_placed(counts, p, i, entry) {
+            if !is_placed(g.p, count, logical, entry) {
                 return true;
             }
         }
-        i += 1;
+        e += 1;
     }
     false
 }
@@ -231,13 +238,14 @@ pub fn settle_one(
         return Answer::Served;
     }
     let p = owners.len();
-    if !is_placed(counts, p, i, x) {
+    let volume = i / p;
+    if !is_placed(p, counts[volume], i % p, x) {
         return Answer::Refused(Refusal::BadEntry);
     }
     if owners[x] != 0 {
         return Answer::Refused(Refusal::SliceTwice);
     }
     maps[i] = x as u32;
-    owners[x] = (i / p + 1) as u8;
+    owners[x] = (volume + 1) as u8;
     Answer::Served
 }

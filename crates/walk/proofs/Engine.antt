@@ -1,12 +1,13 @@
 -- The engine's write in a walk: what it can come to. Assumes nothing.
 use Prim.Native.Nat.{ℕ, _+_, _*_, _≤_, _<_}
-use mathlib.Core.Path.{_≡_, refl, ap, _∙_}
-use mathlib.Core.Bool.{Bool, true, false}
+use mathlib.Core.Path.{_≡_, refl, sym, ap, _∙_}
+use mathlib.Core.Bool.{Bool, true, false, false≢true}
+use mathlib.Core.Logic.{inl, inr, ⊎-elim}
 use mathlib.Core.List.{List}
 use native.Mathlib.Omega.{arith}
 use lib.Dec.{ltb, leb, lit≤}
 use lib.ListN.{length, getD}
-use borrow.Author.Tests.{ltb-true}
+use borrow.Author.Tests.{ltb-true, ltb-false}
 use Rattle.refusals.specs.Numbers.{refuse}
 use Rattle.refusals.proofs.Refuse.{refuse-false}
 use Rattle.model.specs.declared.Geometry.{Geometry}
@@ -15,14 +16,15 @@ use Rattle.model.specs.declared.Search.{Search}
 use Rattle.model.specs.declared.Search.the-variants.{Free, Bad, Full}
 use Rattle.model.specs.Parts.{choose}
 use Rattle.model.specs.Geometry.{deviceLength}
-use Rattle.model.specs.Session.{Held, Outcome, geometry, blockCount, sliceOf, offsetOf, entryOf, asked, short, unless, idle}
+use Rattle.model.specs.Maps.{badInBlock}
+use Rattle.model.specs.Session.{Held, Outcome, geometry, countOf, blockCount, sliceOf, offsetOf, entryOf, asked, short, unless, idle}
 use Rattle.model.specs.Search.{firstFree}
-use Rattle.model.specs.Write.{WriteResult, rewritten, rewriteOutcome, claimed, full, claimOutcome, writeRefusal, writeModel}
+use Rattle.model.specs.Write.{WriteResult, claimNeed, rewritten, rewriteOutcome, claimed, full, claimOutcome, writeRefusal, writeModel}
 use Rattle.model.specs.Conditions.{EntryFits, Enough}
 use Rattle.model.specs.Permutation.{member}
 use Rattle.model.proofs.Tests.{equal-passes, badEntry-fits}
-use Rattle.model.proofs.Requests.{Stands, standing-stands, short-true}
-use Rattle.model.proofs.Bounds.{b-bounds}
+use Rattle.model.proofs.Requests.{Stands, standing-stands, short-true, badInBlock-fits}
+use Rattle.model.proofs.Bounds.{b-bounds, perBlock-least}
 use Rattle.model.proofs.Searches.{firstFree-free}
 use Rattle.claims.specs.State.{zeros, endless}
 use Rattle.claims.proofs.Claims.{zeros-length}
@@ -42,10 +44,12 @@ unless-cases P false n rest refusal served refused passed = passed refl
 
 -- ---- the write
 
--- A session and tables for which a write is never refused by 20, 2, 4 or 9.
+-- A session and tables for which a write is never refused by 20, 2, 4 or 9: every entry is the mark or a slice, and every volume has
+-- N = P, so that an entry may stand at any logical slice.
 pub record Fits (maps owners : List ℕ) (s : Session) : Type 0 where
   pub stands : Stands (deviceLength (s .geometry)) (length maps) (length owners) s
   pub entries : (n : ℕ) → EntryFits (s .geometry) (getD maps n 0)
+  pub whole : (i : ℕ) → i ≤ s .k → countOf s i ≡ s .geometry .p
 
 abbrev pub FitsOf : Held → Type 0
 FitsOf h = Fits (h .maps) (h .owners) (h .session)
@@ -60,7 +64,7 @@ module _ (h : Held) (perm : List ℕ) (i a : ℕ) where
   abbrev j : ℕ
   j = offsetOf g a
 
-  module _ (fits : FitsOf h) (places : length perm ≡ g .p) (room : h .position + 4096 ≤ 4096 * 4096) where
+  module _ (fits : FitsOf h) (places : length perm ≡ g .p) (room : h .position + 4112 ≤ 4096 * 4112) where
     -- Of the refusals before the search only 11 and 12 are left.
     writeRefusal-asked : writeRefusal (deviceLength g) (h .maps) (h .owners) (h .session) i a (length text) (length perm)
         ≡ refuse (ltb (h .session .k) i) 11 (refuse (leb (blockCount (h .session) i) a) 12 0)
@@ -72,8 +76,14 @@ module _ (h : Held) (perm : List ℕ) (i a : ℕ) where
         (refuse-false _ _ _ (equal-passes _ _ (zeros-length (g .b))) ∙ refuse-false _ _ _ (badEntry-fits _ _ (fits .entries _)))
 
     -- The tape has what a write needs.
-    endless-enough : (need : ℕ) → need ≤ 4096 → Enough (length endless) (h .position) need
-    endless-enough need l = rw (zeros-length (4096 * 4096)) (omega arith)
+    endless-enough : (need : ℕ) → need ≤ 4112 → Enough (length endless) (h .position) need
+    endless-enough need l = rw (zeros-length (4096 * 4112)) (omega arith)
+
+    -- No entry of a map block is bad.
+    block-fits : i ≤ h .session .k → badInBlock (h .maps) (h .session) i (sliceOf g a) ≡ false
+    block-fits v =
+        badInBlock-fits (h .maps) (h .session) i (sliceOf g a) (perBlock-least g (fits .stands .usable .allowed))
+        (λ τ l same. ⊎-elim (λ q. inl q) (λ q. inr (q, omega (arith, fits .whole i v))) (fits .entries _))
 
     -- Refused by a listed number, full, rewritten, or a slice claimed.
     pub write-cases : (P : Outcome WriteResult → Type 0)
@@ -85,8 +95,10 @@ module _ (h : Held) (perm : List ℕ) (i a : ℕ) where
     write-cases P refused none re cl =
         rw writeRefusal-asked
         (unless-cases P _ _ _ _ _ (λ e. refused 11 0 refl)
-        (λ e. unless-cases P _ _ _ _ _ (λ e. refused 12 0 refl)
-        (λ e. choose-cases P (ltb ψ₀ (g .p)) (λ l. rewrites ψ₀ (ltb-true ψ₀ (g .p) l)) (λ l. claims _ refl))))
+        (λ above. unless-cases P _ _ _ _ _ (λ e. refused 12 0 refl)
+        (λ e. choose-cases P (ltb ψ₀ (g .p)) (λ l. rewrites ψ₀ (ltb-true ψ₀ (g .p) l))
+        (λ l. choose-cases P (badInBlock (h .maps) (h .session) i (sliceOf g a))
+        (λ bad. absurd (false≢true (sym (block-fits (ltb-false _ _ above)) ∙ bad))) (λ q. claims _ refl)))))
       where
         ψ₀ : ℕ
         ψ₀ = entryOf (h .maps) g i a
@@ -99,6 +111,6 @@ module _ (h : Held) (perm : List ℕ) (i a : ℕ) where
         claims (Bad place) e = refused 5 _ refl
         claims Full e = none
         claims (Free ψ place) e =
-            choose-cases P (short (length endless) (h .position) (g .b))
-            (λ s. absurd (short-true _ _ _ s (endless-enough (g .b) (b-bounds g (fits .stands .usable .allowed) .1))))
+            choose-cases P (short (length endless) (h .position) (claimNeed g))
+            (λ s. absurd (short-true _ _ _ s (endless-enough (claimNeed g) (omega (arith, b-bounds g (fits .stands .usable .allowed))))))
             (λ s. let found = firstFree-free _ _ perm _ ψ place e in cl ψ place (found .0) (omega (arith, found .1)))

@@ -10,6 +10,7 @@ use Rattle.model.specs.declared.Geometry.{Geometry}
 use Rattle.model.specs.Parts.{anyBelow}
 use Rattle.model.specs.Geometry.{badGeometry, anyBadCount, mapBlocks, headerBlocks, deviceLength, sliceStart, blockStart}
 use Rattle.model.specs.Session.{held, unmapped, standing, asked, short}
+use Rattle.model.specs.Maps.{badInBlock}
 use Rattle.model.specs.Search.{search, firstFree}
 use Rattle.model.specs.Write.{writeRefusal, writeModel}
 use Rattle.lines.specs.Hexadecimal.{value, digits, decode}
@@ -45,10 +46,10 @@ states =
     start
     ∷ record { sized = true; shuffled = false; counted = 0; perm = []; held = empty size }
     ∷ walking unclaimed (0 ∷ 0 ∷ 0 ∷ 0 ∷ []) 0 0 0
-    ∷ walking claimed-once (0 ∷ 0 ∷ 1 ∷ 0 ∷ []) 1 1024 1
-    ∷ walking claimed-twice (2 ∷ 0 ∷ 1 ∷ 0 ∷ []) 2 2048 2
-    ∷ walking claimed-twice (2 ∷ 0 ∷ 1 ∷ 0 ∷ []) 3 2064 2
-    ∷ walking claimed-twice (2 ∷ 0 ∷ 1 ∷ 0 ∷ []) 4 2064 2
+    ∷ walking claimed-once (0 ∷ 0 ∷ 1 ∷ 0 ∷ []) 1 1040 1
+    ∷ walking claimed-twice (2 ∷ 0 ∷ 1 ∷ 0 ∷ []) 2 2080 2
+    ∷ walking claimed-twice (2 ∷ 0 ∷ 1 ∷ 0 ∷ []) 3 2096 2
+    ∷ walking claimed-twice (2 ∷ 0 ∷ 1 ∷ 0 ∷ []) 4 2096 2
     ∷ []
 
 -- Line n leads from its state to the next, with its answer.
@@ -56,11 +57,11 @@ abbrev Leads : ℕ → Type 0
 Leads n = step (getD states n start) (getD exampleLines n []) ≡ record { state = getD states (suc n) start; answer = getD exampleAnswers n [] }
 
 each-leads : Leads 0 × Leads 1 × Leads 2 × Leads 3 × Leads 4 × Leads 5
-unfolding refuse numberAfter bigEndian badGeometry anyBelow anyBadCount mapBlocks headerBlocks deviceLength sliceStart blockStart standing asked short search firstFree
-    writeRefusal writeModel value digits decode onSize pairs onOrder onClaim onKind onFrame step
+unfolding refuse numberAfter bigEndian badGeometry anyBelow anyBadCount mapBlocks headerBlocks deviceLength sliceStart blockStart
+    standing asked short badInBlock search firstFree writeRefusal writeModel value digits decode onSize pairs onOrder onClaim onKind onFrame step
 each-leads =
     let text = zeros-length 1024 in
-    let tape = zeros-length (4096 * 4096) in
+    let tape = zeros-length (4096 * 4112) in
     (refl, refl, rw (text, tape), rw (text, tape), rw (text, tape), refl)
 
 pub example : answers start exampleLines ≡ exampleAnswers

@@ -7,7 +7,7 @@ use mathlib.Core.List.{List, [], _∷_}
 use native.Mathlib.Nat.{div-lt-iff-lt-mul, le-refl}
 use native.Mathlib.Omega.{arith}
 use lib.Dec.{ltb, eqb, lit≤}
-use lib.ListN.{length, getD, set, replicate, length-set, length-replicate}
+use lib.ListN.{length, getD, set, replicate, getD-replicate, length-set, length-replicate}
 use borrow.Author.Tests.{leb-false, eqb-true, not-false}
 use Rattle.refusals.specs.Numbers.{refuse}
 use Rattle.model.specs.declared.Geometry.{Geometry}
@@ -32,7 +32,7 @@ use Rattle.walk.proofs.Engine.{choose-cases, unless-cases, Fits, FitsOf
 
 -- What every reached state has.
 record SoundState (w : State) : Type 0 where
-  drawn : w .held .position ≤ 4096 * w .counted
+  drawn : w .held .position ≤ 4112 * w .counted
   fits : w .sized ≡ true → FitsOf (w .held)
   places : w .shuffled ≡ true → length (w .perm) ≡ geometry (w .held) .p
 
@@ -67,6 +67,7 @@ empty-fits g ok =
             tables = (length-replicate _ _, length-replicate _ _);
           };
       entries = getD-replicate-every (EntryFits g) (15 * g .p) unmapped (inl refl) (inr (ok .slices-least));
+      whole = λ i l. getD-replicate 15 i (g .p) 0 (omega arith);
     }
 
 -- Another start place that is allowed.
@@ -83,6 +84,7 @@ started-fits maps owners s f start l =
             tables = t .tables;
           };
       entries = f .entries;
+      whole = f .whole;
     }
 
 claimed-fits : (maps owners : List ℕ) (s : Session) → Fits maps owners s → (at ψ owner : ℕ) → ψ < s .geometry .p
@@ -93,6 +95,7 @@ claimed-fits maps owners s f at ψ owner l =
       stands =
           record { usable = t .usable; long = t .long; tables = (length-set maps at ψ ∙ t .tables .0, length-set owners ψ owner ∙ t .tables .1) };
       entries = getD-set-every (EntryFits (s .geometry)) maps at ψ (f .entries) (inr l);
+      whole = f .whole;
     }
 
 -- ---- the numbers of a served frame 03
@@ -105,7 +108,7 @@ block-small g ok ψ j l h =
     let below : blockStart g ψ j < 256 ^ 4 * g .b = omega (arith, block-fits g ok ψ j l h, bytes-small g ok (g .p) (omega arith)) in
     div-lt-iff-lt-mul {k = g .b} (omega arith) .1 below
 
-values-fit : (g : Geometry) → Allowed g → (a ψ probes position : ℕ) → ψ < g .p → probes ≤ g .p → position ≤ 4096 * 4096
+values-fit : (g : Geometry) → Allowed g → (a ψ probes position : ℕ) → ψ < g .p → probes ≤ g .p → position ≤ 4096 * 4112
     → Listed (served ψ (blockStart g ψ (offsetOf g a) / g .b) probes position)
 values-fit g ok a ψ probes position l m n =
     let most = ok .slices-most in
@@ -168,7 +171,7 @@ module _ (w : State) (s : SoundState w) where
   leaving h = record { sized = w .sized; shuffled = w .shuffled; counted = w .counted + 1; perm = w .perm; held = h }
 
   module _ (room : w .counted < 4096) where
-    leaving-sound : (h : Held) → geometry h ≡ geometry (w .held) → h .position ≤ w .held .position + 4096 → (w .sized ≡ true → FitsOf h)
+    leaving-sound : (h : Held) → geometry h ≡ geometry (w .held) → h .position ≤ w .held .position + 4112 → (w .sized ≡ true → FitsOf h)
         → SoundState (leaving h)
     leaving-sound h same moved fits = record { drawn = omega arith; fits = fits; places = λ e. rw same (s .places e) }
 

@@ -9,7 +9,7 @@ use Rattle.model.specs.declared.Geometry.{Geometry}
 use Rattle.model.specs.declared.Session.{Session}
 use Rattle.model.specs.Geometry.{deviceLength}
 use Rattle.model.specs.Session.{held, slot, sliceOf}
-use Rattle.model.proofs.Bounds.{offsetOf-lt}
+use Rattle.model.proofs.Bounds.{b-bounds, offsetOf-lt}
 use Rattle.model.proofs.Requests.{Writable, writeRefusal-none, asked-slot}
 use Rattle.deciding.specs.declared.Decision.{Decision}
 use Rattle.deciding.specs.declared.Decision.the-variants.{Rewrite, Claim}
@@ -49,7 +49,7 @@ module _ (c : tie.After-decide) where
       subst (λ (n : ℕ). Says n session d) (sized .device-length .ensures)
       (subst (λ (s : Session). Says (sized .device-length .result) s d) (c .before .all-open .ensures)
       (subst (Says (sized .device-length .result) (c .before .all-open .result)) e
-      (c .decide .ensures (zeros (g .b)) endless (zeros-length (g .b)) (zeros-length (4096 * 4096)))))
+      (c .decide .ensures (zeros (g .b)) endless (zeros-length (g .b)) (zeros-length (4096 * 4112)))))
 
 -- ---- a rewrite
 
@@ -67,7 +67,7 @@ serve-requires c κs =
       s .pre .0,
       rewrites decided .slice,
       offsetOf-lt (s .args .walk .geometry) (s .pre .0) (s .args .address),
-      omega (arith, rewrites decided .enough, zeros-length (4096 * 4096)),
+      omega (arith, rewrites decided .enough, zeros-length (4096 * 4112)),
       omega (arith, writeRefusal-none _ _ _ _ _ _ _ _ (rewrites decided .none) .stands .usable .place),
     )
 
@@ -102,8 +102,13 @@ assign-requires c κs =
       fit decided .asked .volume,
     )
 
+claim-need-requires : tie.Need-claim-need-requires
+claim-need-requires c κs =
+    let s = start (by′ (assigning (c .before .before .before .before .before))) in
+    b-bounds (s .args .walk .geometry) (s .pre .0) .1
+
 abbrev serving : tie.After-struct-known3 → tie.After-decision3
-serving c = assigning (c .before .before .before .before .before .before)
+serving c = assigning (c .before .before .before .before .before .before .before)
 
 serve-requires-2 : tie.Need-serve-requires-2
 serve-requires-2 c κs =
@@ -112,7 +117,7 @@ serve-requires-2 c κs =
       s .pre .0,
       claims decided .0 .slice,
       offsetOf-lt (s .args .walk .geometry) (s .pre .0) (s .args .address),
-      omega (arith, claims decided .0 .enough, zeros-length (4096 * 4096)),
+      omega (arith, claims decided .0 .enough, zeros-length (4096 * 4112), c .before .before .claim-need .ensures),
       omega (arith, claims decided .1 .from, claims decided .1 .inside),
     )
 
@@ -147,12 +152,13 @@ returns-4 : tie.Need-returns-4
 returns-4 c =
     let known = c .before .before in
     let decided = serving known in
-    let assigned = known .before .before .before .before .before in
+    let drawn = known .before in
+    let assigned = drawn .before .before .before .before .before in
     let s = start (by′ decided) in
     let a = s .args in
-    claim-answers (a .walk) (a .maps .now) (a .owners .now) (a .perm .now) (a .volume) (a .address) (s .pre .1) _ _ _ _ _ _
+    claim-answers (a .walk) (a .maps .now) (a .owners .now) (a .perm .now) (a .volume) (a .address) (s .pre .1) _ _ _ _ _ _ _
     (claims decided .0 .outcome) (slot-below decided) (claims decided .0 .slice) (claims decided .1 .from)
-    (assigned .assign .ensures .0) (assigned .assign .ensures .1) (c .serve2 .ensures)
+    (assigned .assign .ensures .0) (assigned .assign .ensures .1) (drawn .claim-need .ensures) (c .serve2 .ensures)
 
 pub claim-spec : {M : Type 1} → statement M
 claim-spec =
@@ -178,6 +184,7 @@ claim-spec =
     (λ c. search needs)
     (λ c. search needs)
     assign-requires
+    claim-need-requires
     (λ c. start (by′ (serving c)) .pre .0 .slice-least)
     (λ c. let decided = serving c in omega (arith, claims decided .1 .inside, start (by′ decided) .pre .0 .slices-most))
     (λ c. let decided = serving (c .before) in omega (arith, claims decided .1 .from))

@@ -2,13 +2,11 @@
 use Prim.Native.Nat.{ℕ, _-_, _<_}
 use mathlib.Core.Path.{_≡_, sym, ap, _∙_}
 use mathlib.Core.List.{List}
-use mathlib.Core.Logic.{inl, inr, ⊎-elim}
 use native.Mathlib.Omega.{arith}
 use lib.ListN.{List·getD-eq-default}
 use Rattle.model.specs.Conditions.{Names}
 use Rattle.model.specs.Shuffle.{inOrder, ordering}
-use Rattle.model.proofs.Tests.{below}
-use Rattle.model.proofs.Shuffles.{inOrder-names, ordering-names}
+use Rattle.model.proofs.Shuffles.{last-place, inOrder-names, ordering-names}
 use Rattle.evenness.specs.Runs.{AcceptedRun}
 use Rattle.evenness.specs.Evenness.{Quotients, quotientsOf, drawsOf, runCount, Exactly}
 use Rattle.evenness.proofs.Stages.{Place, Stage, draws-accepted, from-ordering, from-quotients, quotients-suit, from-run}
@@ -21,7 +19,7 @@ module _ (p : ℕ) where
   i = p - 1
 
   at : Place p i
-  at = ⊎-elim (λ l. inl (omega (arith, l))) (λ l. inr (omega (arith, l))) (below 0 p)
+  at = last-place p
 
   -- Before the first exchange nothing has to agree: there is no place above the last.
   start : (perm : List ℕ) → Names p perm → Stage p i (inOrder p) perm

@@ -40,7 +40,7 @@ returns c =
       names = names;
       opens = λ g perm m device key maps owners. open-not-5 (open-answered device g key maps owners perm) (names g perm m);
       writes = λ h perm m device i a text tape. write-not-5 (write-answered device h i a text perm tape) (names (h .session .geometry) perm m);
-      releases = λ h perm m device i σ. release-not-5 (release-answered device h i σ perm) (names (h .session .geometry) perm m);
+      releases = λ h perm m device i σ tape. release-not-5 (release-answered device h i σ perm tape) (names (h .session .geometry) perm m);
       accepted = accepted;
       thrown-away = λ g list list′ tape tape′ position position′ perm perm′ after after′ e e′ draws n n′ d d′.
           ran-draws g list tape position perm after (ran g list tape position perm after e) draws n d

@@ -11,8 +11,10 @@ use Rattle.model.specs.Search.{search, firstFree}
 use Rattle.model.specs.Opening.{withTables}
 use Rattle.model.specs.Parts.{anyBelow, joined}
 use Rattle.model.specs.Permutation.{placeOf}
+use Rattle.model.specs.Write.{writeRefusal, writeModel}
 use Rattle.model.specs.Release.{releaseRefusal, releaseModel}
-use Rattle.model.specs.Close.{anyBad, closeRefusal}
+use Rattle.model.specs.Maps.{badInBlock}
+use Rattle.model.specs.Close.{closeModel}
 use Rattle.model.specs.Format.{formatNeed, formatRefusal}
 use Rattle.model.specs.Shuffle.{inOrder, exchanged, ordered, draws, run, shuffleRefusal, shuffleModel}
 use Rattle.model.specs.Bench.{cases}
@@ -25,15 +27,16 @@ _and_ row rows = (row, rows)
 
 returns : tie.Need-returns
 unfolding cases refuse badGeometry mapBlocks headerBlocks deviceLength mapStart sliceStart ivStart blockStart standing asked short
-    search firstFree withTables anyBelow anyBadCount anyBad closeRefusal placeOf releaseRefusal releaseModel formatNeed formatRefusal joined inOrder exchanged ordered draws run shuffleRefusal shuffleModel xtimes timesBits times squared squares inverse bit affineBit affine sbox
+    search firstFree withTables anyBelow anyBadCount badInBlock writeRefusal writeModel placeOf releaseRefusal releaseModel closeModel formatNeed formatRefusal
+    joined inOrder exchanged ordered draws run shuffleRefusal shuffleModel xtimes timesBits times squared squares inverse bit affineBit affine sbox
     numberAfter bigEndian increment
 returns c =
     refl and refl and refl and refl and refl and refl and refl and refl and refl and refl and refl and refl and
     refl and refl and refl and refl and refl and refl and refl and refl and refl and refl and refl and refl and
     refl and refl and refl and refl and refl and refl and refl and refl and refl and refl and refl and refl and
-    refl and refl and refl and refl and refl and refl and refl and refl and refl and refl and refl and refl and refl and
     refl and refl and refl and refl and refl and refl and refl and refl and refl and refl and refl and refl and
-    refl and refl and refl and refl and tt
+    refl and refl and refl and refl and refl and refl and refl and refl and refl and refl and refl and refl and
+    refl and refl and refl and refl and refl and refl and refl and refl and refl and refl and refl and refl and refl and refl and tt
 
 pub bench-cases-spec : {M : Type 1} → statement M
 bench-cases-spec = tie.close (tie.spec returns)

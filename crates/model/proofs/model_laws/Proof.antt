@@ -48,8 +48,8 @@ returns c =
             q .is,
             λ n h e. names-once p perm names n _ (omega (arith, h, names .places)) (q .inside) (rw (q .is) e),
           );
-      released-entry = λ h i σ ψ place n l. set-at (h .maps) _ _ n l;
-      released-owner = λ h i σ ψ place φ l. set-at (h .owners) ψ 0 φ l;
+      released-entry = λ h i σ ψ place tape n l. set-at (h .maps) _ _ n l;
+      released-owner = λ h i σ ψ place tape φ l. set-at (h .owners) ψ 0 φ l;
       ordering-names = ordering-names;
       ordering-shuffles = ordering-shuffles;
       run-drawn = run-drawn;

@@ -10,7 +10,8 @@ use Rattle.refusals.proofs.Positive.{answer-positive}
 use Rattle.model.specs.Session.{Refused}
 use Rattle.model.specs.Shuffle.{shuffleRefusal}
 use Rattle.ordering.proofs.Exits.{makes-refused, makes-same}
-use Rattle.shuffling.proofs.Refusals.{Shufflable, shuffleRefusal-none, shuffleModel-refused, shuffleModel-served}
+use Rattle.model.proofs.Requests.{Shufflable, shuffleRefusal-none}
+use Rattle.shuffling.proofs.Refusals.{shuffleModel-refused, shuffleModel-served}
 use Rattle.shuffling.proofs.make.Statement.{statement}
 use Rattle.shuffling.proofs.make.Tie as tie
 

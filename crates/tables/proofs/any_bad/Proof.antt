@@ -1,60 +1,70 @@
--- `tables::any_bad` meets its contract. None of the i entries passed is bad. Assumes nothing.
+-- `tables::any_bad` meets its contract. None of the e entries passed is bad. Assumes nothing.
 use mathlib.Core.Path.{_≡_, refl, sym, ap, _∙_}
-use mathlib.Core.Bool.{true, false, not}
+use mathlib.Core.Bool.{Bool, false, not}
 use mathlib.Core.Logic.{⊎-elim}
-use Prim.Native.Nat.{_-_, _≤_}
+use Prim.Native.Nat.{ℕ, _+_, _-_, _≤_}
 use native.Mathlib.Omega.{arith}
 use borrow.Author.Needs.{needs}
-use borrow.Author.Tests.{ne-eqb}
-use lib.ListN.{getD}
+use borrow.Author.Tests.{eq-eqb, ne-eqb}
 use Rattle.model.specs.Parts.{anyBelow}
-use Rattle.model.specs.Session.{badEntryAt, unmapped}
-use Rattle.model.specs.Close.{anyBad}
+use Rattle.model.specs.Session.{entry, unmapped, placed, badEntryAt}
 use Rattle.model.proofs.Below.{anyBelow-turn, anyBelow-found}
 use Rattle.tables.proofs.any_bad.Statement.{statement}
 use Rattle.tables.proofs.any_bad.Tie as tie
 
 abbrev Inv-loop : tie.InvT-loop
-Inv-loop maps counts p n i₀ i = (i ≤ n) × (anyBad p counts maps i ≡ false)
+Inv-loop maps g volume count first n e₀ e =
+    (e ≤ n) × (anyBelow (λ m. badEntryAt (g .p) count (first + m) (entry maps g volume (first + m))) e ≡ false)
 
 abbrev μ-loop : tie.MeasureT-loop
-μ-loop maps counts p n i₀ i = n - i
+μ-loop maps g volume count first n e₀ e = n - e
+
+-- Entry e of those that are judged.
+module _ (c : tie.At-loop Inv-loop μ-loop) where
+  abbrev start : tie.Start Inv-loop μ-loop
+  start = c .before .before
+
+  abbrev bad : ℕ → Bool
+  bad e = let a = start .args in badEntryAt (a .g .p) (a .count) (a .first + e) (entry (a .maps .now) (a .g) (a .volume) (a .first + e))
 
 loop-holds : tie.Need-loop-holds Inv-loop μ-loop
-unfolding anyBad anyBelow
+unfolding anyBelow
 loop-holds c = (search needs, refl)
 
-cast-entry : tie.Need-cast-entry Inv-loop μ-loop
-cast-entry c = omega (arith, c .shared-slice-known3 .given (c .before .before .loop .i))
+-- An entry that is not the mark is bad where it is not placed.
+unmarked : (p n σ x : ℕ) → (x ≡ unmapped → ⊥) → badEntryAt p n σ x ≡ not (placed p n σ x)
+unmarked p n σ x ne = rw (ne-eqb x unmapped ne) refl
+
+judged : (c : tie.After-is-placed Inv-loop μ-loop) → let at = c .before .before .before .before in bad at (at .loop .e) ≡ not (c .is-placed .result)
+judged c =
+    let read = c .before .before in
+    let at = read .before .before in
+    let a = start at .args in
+    let e = read .entry-at .ensures in
+    unmarked (a .g .p) (a .count) (a .first + at .loop .e) _ (λ q. c .before .if1 .taken (e ∙ q))
+    ∙ ap (λ (x : ℕ). not (placed (a .g .p) (a .count) (a .first + at .loop .e) x)) (sym e)
+    ∙ ap not (sym (c .is-placed .ensures))
 
 returns : tie.Need-returns Inv-loop μ-loop
-unfolding anyBad
 returns c =
-    let held = c .before in
-    let tested = held .before .before .before in
-    let i = tested .before .loop .i in
-    let a = tested .before .before .before .before .args in
-    let x = getD (a .maps .now) i 0 in
-    let bad : badEntryAt (a .p) (a .counts .now) i x ≡ true =
-    rw (ne-eqb x unmapped (held .before .if1 .taken), sym (held .is-placed .ensures), c .if2 .taken) refl in
-    sym (anyBelow-found _ (a .n) i (tested .loop-test .taken) bad)
+    let tested = c .before .before .before .before in
+    sym (anyBelow-found (bad (tested .before)) _ (tested .before .loop .e) (tested .loop-test .taken) (judged (c .before) ∙ c .if2 .taken))
 
 loop-again : tie.Need-loop-again Inv-loop μ-loop
-unfolding anyBad
 loop-again c =
-    let l = c .before .before .before .loop in
-    let a = c .before .before .before .before .before .before .args in
-    let x = getD (a .maps .now) (l .i) 0 in (
+    let read = c .before in
+    let at = read .before .before in (
       search needs,
-      anyBelow-turn _ (l .i) (l .inv .1)
-          (⊎-elim (λ w. rw (ne-eqb x unmapped (w .0 .taken), sym (w .1 .ensures), w .2 .left) refl) (λ w. rw (w .left) refl) (c .if1 .came)),
+      anyBelow-turn (bad at) (at .loop .e) (at .loop .inv .1)
+          (⊎-elim (λ w. judged (record { before = record { before = read; if1 = w .0 }; is-placed = w .1 }) ∙ w .2 .left)
+          (λ w. rw (← read .entry-at .ensures) (rw (eq-eqb (read .entry-at .result) unmapped (w .left)) refl)) (c .if1 .came)),
     )
 
 returns-2 : tie.Need-returns-2 Inv-loop μ-loop
 returns-2 c =
-    let a = c .before .before .before .before .args in
-    let e : a .n ≡ c .before .loop .i = omega arith in
-    sym (ap (anyBad (a .p) (a .counts .now) (a .maps .now)) e ∙ c .before .loop .inv .1)
+    let at = c .before in
+    let e : start at .args .n ≡ at .loop .e = omega arith in
+    sym (ap (anyBelow (bad at)) e ∙ at .loop .inv .1)
 
 pub any-bad-spec : {M : Type 1} → statement M
 any-bad-spec =
@@ -64,8 +74,7 @@ any-bad-spec =
     μ-loop
     loop-holds
     (λ c. search needs)
-    (λ c. search needs)
-    cast-entry
+    (λ c κs. search needs)
     (λ c κs. search needs)
     returns
     (λ c. search needs)

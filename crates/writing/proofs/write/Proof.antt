@@ -79,7 +79,7 @@ use Rattle.writing.proofs.write as outer
 use Rattle.writing.proofs.write.Statement as stated
 use Rattle.writing.proofs.write.Code as code
 use Rattle.tape.proofs.Shared.{renamed, Sharing, lends-shared, shared-back}
-use Rattle.writing.proofs.Carried.{carry-out-asks, write-ensures}
+use Rattle.writing.proofs.Carried.{need-asks, carry-out-asks, write-ensures}
 
 -- A tuple, nested to the right.
 infixr 2 _▸_
@@ -394,8 +394,10 @@ module _ {M : Type 1} (𝓤 : URA M) (H : Heap 𝓤) (A : Atoms 𝓤) (W : Given
         Session′.the-type Session″.the-laws session) is-session $
         fjoin ! $
         owned ! Decision′.the-row (Is Decision′.the-row) (EL.makes Decision′.the-type Decision″.the-plain 𝓤 H A) r₁ (v₁ ∷ []) is₁ $
-        fjoin ! $ nothing ! $ join ! $ nothing ! $ move ! (1 ∷ 0 ∷ []) $ join ! $
-        use1 W (raw (need-contract 𝓤 H A mem run .pre (need-to r₁ v₁))) (id⊢ 𝓤 _) $
+        fjoin ! $ nothing ! $ join ! $
+        use0 W (raw (need′.clauses 𝓤 H A mem run (need-κs r₁ v₁) (need-args r₁ v₁) .requires tt)) (factI 𝓤 _ (emp 𝓤) (need-asks (device
+        .now) (maps .now) (owners .now) (perm .now) (tape .now) (position .now .at) session volume address (text .now) r₁ e₁)) $
+        move ! (1 ∷ 0 ∷ []) $ join ! $ use1 W (raw (need-contract 𝓤 H A mem run .pre (need-to r₁ v₁))) (id⊢ 𝓤 _) $
         calls-at ! fm (need-contract 𝓤 H A mem run) need-known (need-to r₁ v₁) (and-then ! (load ! (from ! (stop !)) (look ! 46 refl))
         (and-then ! (load ! (from ! (stop !)) (look ! 54 refl)) (no-more !))) (λ v₂.
         use1 W (later (some (λ (r₂ : ℕ). ((need-alive r₁ v₁) ⊛ ‵ (usize .own r₂ (v₂ ∷ [])))
