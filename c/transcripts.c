@@ -69,6 +69,7 @@ struct bench {
     size_t line; /* of the transcript, or 0 */
     int placement;
     struct states parts[PARTS];
+    struct bytes opener; /* the key of a session that passed on untouched from its opening, or NULL */
     uint64_t volume;
     uint64_t address;
     uint64_t logical_slice; /* of a release */
@@ -184,9 +185,14 @@ static void expect(struct bench *bench, int part, const void *bytes, size_t leng
     store(&bench->parts[part].expected, bytes, length);
 }
 
+static void expect_filled(struct bench *bench, int part, int value)
+{
+    memset(bench->parts[part].expected.at, value, bench->parts[part].expected.length);
+}
+
 static void expect_zeros(struct bench *bench, int part)
 {
-    memset(bench->parts[part].expected.at, 0, bench->parts[part].expected.length);
+    expect_filled(bench, part, 0);
 }
 
 /* Expects what is lent now, whatever a call made of it. */
@@ -277,8 +283,8 @@ static const unsigned TAKES[FUNCTIONS] = {
     BIT(DEVICE) | BIT(MAPS) | BIT(OWNERS) | BIT(SESSION) | BIT(BUFFER),
     BIT(DEVICE) | BIT(MAPS) | BIT(OWNERS) | BIT(SESSION) | BIT(BUFFER),
     BIT(DEVICE) | BIT(MAPS) | BIT(OWNERS) | BIT(PERMUTATION) | BIT(TAPE) | BIT(SESSION) | BIT(TEXT) | BIT(WRITTEN),
-    BIT(DEVICE) | BIT(MAPS) | BIT(OWNERS) | BIT(PERMUTATION) | BIT(SESSION),
-    BIT(DEVICE) | BIT(MAPS) | BIT(OWNERS) | BIT(TAPE) | BIT(SESSION),
+    BIT(DEVICE) | BIT(MAPS) | BIT(OWNERS) | BIT(PERMUTATION) | BIT(TAPE) | BIT(SESSION),
+    BIT(DEVICE) | BIT(MAPS) | BIT(OWNERS) | BIT(SESSION),
     BIT(DEVICE) | BIT(GEOMETRY) | BIT(KEY) | BIT(COUNTS) | BIT(TAPE),
     BIT(GEOMETRY) | BIT(PERMUTATION) | BIT(TAPE),
     BIT(KEY) | BIT(IV) | BIT(TEXT) | BIT(BUFFER),
@@ -367,6 +373,7 @@ static uint8_t call_release(struct bench *b)
                             numbers_of(b, MAPS), count_of(b, MAPS),
                             bytes_of(b, OWNERS), length_of(b, OWNERS),
                             numbers_of(b, PERMUTATION), count_of(b, PERMUTATION),
+                            bytes_of(b, TAPE), length_of(b, TAPE), (size_t *)(void *)bytes_of(b, POSITION),
                             session_of(b), length_of(b, SESSION),
                             b->volume, b->logical_slice, (uint64_t *)(void *)bytes_of(b, SLICE));
 }
@@ -376,7 +383,6 @@ static uint8_t call_close(struct bench *b)
     return hiwalgam_close(bytes_of(b, DEVICE), length_of(b, DEVICE),
                           numbers_of(b, MAPS), count_of(b, MAPS),
                           bytes_of(b, OWNERS), length_of(b, OWNERS),
-                          bytes_of(b, TAPE), length_of(b, TAPE), (size_t *)(void *)bytes_of(b, POSITION),
                           session_of(b), length_of(b, SESSION));
 }
 
@@ -931,6 +937,66 @@ static void set_part(struct bench *bench, struct words *words, int given)
     words->wrong = 1;
 }
 
+/* ---- Transcripts: sessions that are dropped ------------------------------------------------------------------- */
+
+/* The key is held from a served opening on, while device, tables and session pass on untouched, to what ends that. */
+static void forget_opener(struct bench *bench)
+{
+    free(bench->opener.at);
+    memset(&bench->opener, 0, sizeof bench->opener);
+}
+
+static int is_beside_a_session(const char *word)
+{
+    static const char *const words[] = { "geometry", "permutation", "order", "tape", "position" };
+
+    for (size_t i = 0; i < sizeof words / sizeof *words; i++)
+        if (strcmp(word, words[i]) == 0) return 1;
+    return 0;
+}
+
+/*
+ * The session is dropped here: with its key a copy of the device opens to the tables and the session held, whose start
+ * place alone goes by the permutation, here P - 1 down to 0. After every call, but in one placement alone: that tells as
+ * much as all of them, in a quarter of the time, which counts under a memory checker.
+ */
+static void check_dropped(struct bench *bench)
+{
+    const struct lent *maps = &bench->parts[MAPS].lent, *owners = &bench->parts[OWNERS].lent;
+    struct bytes device = { NULL, 0 }, new_maps, new_owners, permutation;
+    hiwalgam_session held, opened;
+    uint8_t answer;
+
+    if (bench->opener.at == NULL || bench->placement != BETWEEN_GUARDS) return;
+    memcpy(&held, bytes_of(bench, SESSION), sizeof held);
+    memset(&opened, UNSET_BYTE, sizeof opened);
+    store(&device, bytes_of(bench, DEVICE), length_of(bench, DEVICE));
+    new_maps = filled(maps->length, UNSET_BYTE);
+    new_owners = filled(owners->length, UNSET_BYTE);
+    permutation = new_bytes((size_t)held.geometry.slices * sizeof(uint32_t));
+    for (uint32_t place = 0; place < held.geometry.slices; place++) {
+        const uint32_t slice = (uint32_t)held.geometry.slices - 1 - place;
+        memcpy(permutation.at + place * sizeof slice, &slice, sizeof slice);
+    }
+    answer = hiwalgam_open(device.at, device.length, &held.geometry, sizeof held.geometry,
+                           bench->opener.at, bench->opener.length,
+                           (uint32_t *)(void *)new_maps.at, maps->length / sizeof(uint32_t),
+                           new_owners.at, owners->length,
+                           (const uint32_t *)(void *)permutation.at, (size_t)held.geometry.slices,
+                           &opened, sizeof opened);
+    opened.start_place = held.start_place;
+    check(bench, answer == HIWALGAM_SERVED, "dropped session", "does not open again");
+    check(bench, memcmp(&opened, &held, sizeof held) == 0, "dropped session", "opens to another one");
+    check(bench, same_bytes(maps->at, maps->length, new_maps.at, new_maps.length), "dropped session",
+          "opens to another map table");
+    check(bench, same_bytes(owners->at, owners->length, new_owners.at, new_owners.length), "dropped session",
+          "opens to another owner table");
+    free(device.at);
+    free(new_maps.at);
+    free(new_owners.at);
+    free(permutation.at);
+}
+
 /* ---- Transcripts: calls --------------------------------------------------------------------------------------- */
 
 static void line_open(struct bench *bench, struct words *words)
@@ -943,8 +1009,10 @@ static void line_open(struct bench *bench, struct words *words)
     answer = take_number(words, UINT8_MAX);
     if (answer == HIWALGAM_SERVED) volume = take_number(words, UINT64_MAX);
     take_end(words);
+    forget_opener(bench);
     if (!words->wrong) {
         lend(bench, KEY, key.at, key.length);
+        if (answer == HIWALGAM_SERVED) store(&bench->opener, key.at, key.length);
         check_answer(bench, OPEN, (size_t)answer);
         memcpy(&session, bytes_of(bench, SESSION), sizeof session);
         check(bench, session.volume == volume, "open", "gives another volume");
@@ -1062,6 +1130,7 @@ static void line_alone(struct bench *bench, struct words *words, int function)
     answer = take_number(words, UINT8_MAX);
     take_end(words);
     if (!words->wrong) check_answer(bench, function, (size_t)answer);
+    if (function == CLOSE && answer == HIWALGAM_SERVED) forget_opener(bench);
 }
 
 static void line_format(struct bench *bench, struct words *words)
@@ -1080,6 +1149,7 @@ static void line_format(struct bench *bench, struct words *words)
         lend(bench, COUNTS, counts.at, counts.length);
         check_answer(bench, FORMAT, (size_t)answer);
     }
+    if (answer == HIWALGAM_SERVED) forget_opener(bench);
     free(keys.at);
     free(counts.at);
 }
@@ -1104,7 +1174,10 @@ static void run_line(struct bench *bench, struct words *words, int *compare_is_d
             set_part(bench, words, 0);
         } else if (take_this(words, "compare")) {
             take_end(words);
-            if (!words->wrong) compare(bench);
+            if (!words->wrong) {
+                compare(bench);
+                check_dropped(bench);
+            }
             *compare_is_due = 0;
         } else {
             words->wrong = 1;
@@ -1112,6 +1185,7 @@ static void run_line(struct bench *bench, struct words *words, int *compare_is_d
         return;
     }
     if (take_this(words, "given")) {
+        if (words_left(words) != 0 && !is_beside_a_session(words->word[words->next])) forget_opener(bench);
         set_part(bench, words, 1);
     } else if (take_this(words, "image")) {
         line_image(bench, words);
@@ -1336,8 +1410,8 @@ static const struct refusal NULL_REFUSALS[] = {
     { WRITE, SESSION, 13 }, { WRITE, WRITTEN, 13 }, { WRITE, DEVICE, 2 }, { WRITE, MAPS, 4 }, { WRITE, OWNERS, 4 },
     { WRITE, PERMUTATION, 5 }, { WRITE, TEXT, 13 }, { WRITE, TAPE, 21 },
     { RELEASE, SESSION, 13 }, { RELEASE, DEVICE, 2 }, { RELEASE, MAPS, 4 }, { RELEASE, OWNERS, 4 },
-    { RELEASE, PERMUTATION, 5 },
-    { CLOSE, SESSION, 13 }, { CLOSE, DEVICE, 2 }, { CLOSE, MAPS, 4 }, { CLOSE, OWNERS, 4 }, { CLOSE, TAPE, 21 },
+    { RELEASE, PERMUTATION, 5 }, { RELEASE, TAPE, 21 },
+    { CLOSE, SESSION, 13 }, { CLOSE, DEVICE, 2 }, { CLOSE, MAPS, 4 }, { CLOSE, OWNERS, 4 },
     { FORMAT, GEOMETRY, 13 }, { FORMAT, COUNTS, 1 }, { FORMAT, DEVICE, 2 }, { FORMAT, KEY, 3 }, { FORMAT, TAPE, 21 },
     { SHUFFLE, GEOMETRY, 13 }, { SHUFFLE, PERMUTATION, 4 }, { SHUFFLE, TAPE, 21 }
 };
@@ -1364,6 +1438,7 @@ static void case_null(struct bench *bench, int function, unsigned nulls, uint64_
     int claim = function == WRITE && address == SMALL_UNMAPPED;
 
     if (function == FORMAT && volumes == 0) answer = answer_without_volume(nulls);
+    if (function == RELEASE && address == SMALL_UNMAPPED && answer == HIWALGAM_TAPE_SHORT) answer = HIWALGAM_SLICE_UNMAPPED;
     for (int part = 0; part < PARTS; part++) {
         put_back(bench, part);
         if ((nulls & BIT(part)) != 0) lend_null(bench, part);
@@ -1472,21 +1547,54 @@ static void expect_number(struct bench *bench, size_t at, uint64_t number)
     set_number(bench->parts[SESSION].expected.at + at, number);
 }
 
-/* Expects what a close makes of the session: closed and without keys, and every other byte as it is. */
-static void expect_closed(struct bench *bench)
+/* A close: every entry and owner is wiped, the session closed and without keys; every other byte that is lent stays. */
+static void check_closed(struct bench *bench)
 {
+    expect_filled(bench, MAPS, 0xff);
+    expect_zeros(bench, OWNERS);
     expect_number(bench, OPEN_AT, 0);
     memset(bench->parts[SESSION].expected.at + KEYS_AT, 0, HIWALGAM_VOLUMES * HIWALGAM_KEY_BYTES);
+    check_call(bench, CLOSE, HIWALGAM_SERVED);
 }
 
-/* A served call that leaves the session, but for what a close sets. The rest of what it sets is in the transcripts. */
+/* A served call that leaves the session, but for a close. The rest of what it sets is in the transcripts. */
 static void check_served(struct bench *bench, int function)
 {
-    if (function == CLOSE) expect_closed(bench);
+    if (function == CLOSE) {
+        check_closed(bench);
+        return;
+    }
     check_answer(bench, function, function == FIND ? (size_t)SMALL_B : (size_t)HIWALGAM_SERVED);
     for (int part = 0; part < PARTS; part++)
         if (part != SESSION) expect_as_lent(bench, part);
     compare(bench);
+}
+
+/*
+ * Expects on the device the map block of a volume of small.img, made of the expected map table. Its IV are the 16 bytes of
+ * the tape that come `after` bytes behind the position, and the position is then behind these.
+ */
+static void expect_map_block(struct bench *bench, size_t volume, size_t after)
+{
+    uint8_t *block = bench->parts[DEVICE].expected.at + SMALL_B * (2 + 2 * volume);
+    const uint8_t *key = bench->parts[SESSION].lent.at + KEYS_AT + volume * HIWALGAM_KEY_BYTES;
+    struct bytes entries = filled(SMALL_B - HIWALGAM_IV_BYTES, 0xff);
+    size_t position;
+
+    memcpy(&position, bytes_of(bench, POSITION), sizeof position);
+    for (size_t i = 0; i < SMALL_P; i++) {
+        uint32_t entry;
+        memcpy(&entry, bench->parts[MAPS].expected.at + (volume * SMALL_P + i) * sizeof entry, sizeof entry);
+        for (size_t byte = 0; byte < 4; byte++) entries.at[4 * i + byte] = (uint8_t)(entry >> (24 - 8 * byte));
+    }
+    memcpy(block, bytes_of(bench, TAPE) + position + after, HIWALGAM_IV_BYTES);
+    check(bench,
+          hiwalgam_counter_mode(key, HIWALGAM_KEY_BYTES, block, HIWALGAM_IV_BYTES, entries.at, entries.length,
+                                block + HIWALGAM_IV_BYTES, entries.length) == HIWALGAM_SERVED,
+          "counter_mode", "is refused");
+    position += after + HIWALGAM_IV_BYTES;
+    expect(bench, POSITION, &position, sizeof position);
+    free(entries.at);
 }
 
 /* ---- Cases: start places -------------------------------------------------------------------------------------- */
@@ -1530,10 +1638,11 @@ static void case_none_free(struct bench *bench, uint64_t start_place)
     check_call(bench, WRITE, HIWALGAM_NO_FREE_SLICE);
 }
 
-/* A claim with all slices free: it takes the slice at the start place. The tape and the device are in the transcripts. */
+/* A claim with all slices free: it takes the slice at the start place. The transcripts say what it stores there. */
 static void case_all_free(struct bench *bench, uint64_t start_place)
 {
     const uint32_t slice = numbers_of(bench, PERMUTATION)[start_place];
+    const size_t first = SMALL_B * (31 + slice * (1 + SMALL_S));
 
     lend_small(bench, start_place, SMALL_UNMAPPED);
     lend_owners(bench, 0);
@@ -1541,9 +1650,9 @@ static void case_all_free(struct bench *bench, uint64_t start_place)
     expect_written(bench, 1, slice, 1);
     bench->parts[OWNERS].expected.at[slice] = 1;
     memcpy(bench->parts[MAPS].expected.at, &slice, sizeof slice);
+    expect_map_block(bench, 0, SMALL_B);
     check_answer(bench, WRITE, HIWALGAM_SERVED);
-    expect_as_lent(bench, DEVICE);
-    expect_as_lent(bench, POSITION);
+    memcpy(bench->parts[DEVICE].expected.at + first, bytes_of(bench, DEVICE) + first, SMALL_B * (1 + SMALL_S));
     compare(bench);
 }
 
@@ -1694,7 +1803,7 @@ static void lend_entry(struct bench *bench, size_t volume, uint64_t logical_slic
     expect_as_lent(bench, MAPS);
 }
 
-/* A release of what a volume has, whatever the owner byte is: every byte of session, tables and slice. A second is 25. */
+/* A release of what a volume has, whatever the owner byte is: every byte of all that is lent. A second is 25. */
 static void case_release(struct bench *bench, size_t volume, uint64_t start_place, uint8_t owner)
 {
     const struct mapped *mapped = &SMALL_SLICES[volume];
@@ -1708,10 +1817,34 @@ static void case_release(struct bench *bench, size_t volume, uint64_t start_plac
            sizeof unmapped);
     expect_start(bench, mapped->place < start_place ? mapped->place : start_place);
     expect_slice(bench, mapped->slice);
+    expect_map_block(bench, volume, 0);
     check_call(bench, RELEASE, HIWALGAM_SERVED);
 
     lend_slice(bench);
     check_call(bench, RELEASE, HIWALGAM_SLICE_UNMAPPED);
+}
+
+/*
+ * A bad entry at each place of the map table, without a tape: a claim and a release are 9 where it stands in the row of the
+ * asked entry, and else 21; a rewrite is 21 wherever it stands, but for 9 at the asked entry itself. No byte changes.
+ */
+static void case_bad_entry(struct bench *bench, size_t place, uint32_t bad)
+{
+    const size_t in_row = place < SMALL_P ? (size_t)HIWALGAM_BAD_ENTRY : (size_t)HIWALGAM_TAPE_SHORT;
+    const size_t alone = place == SMALL_MAPPED / SMALL_S ? (size_t)HIWALGAM_BAD_ENTRY : (size_t)HIWALGAM_TAPE_SHORT;
+    const struct { int function; uint64_t address; size_t answer; } calls[] = {
+        { WRITE, SMALL_UNMAPPED, in_row }, { RELEASE, SMALL_MAPPED, in_row }, { WRITE, SMALL_MAPPED, alone }
+    };
+
+    for (size_t i = 0; i < sizeof calls / sizeof *calls; i++) {
+        const int claim = calls[i].function == WRITE && calls[i].address == SMALL_UNMAPPED;
+        lend_small(bench, SMALL_START, calls[i].address);
+        lend_entry(bench, place / SMALL_P, place % SMALL_P, bad);
+        lend_null(bench, TAPE);
+        if (calls[i].function == WRITE)
+            expect_written(bench, 0, 0, claim && calls[i].answer == HIWALGAM_TAPE_SHORT ? SMALL_PROBES : 0);
+        check_call(bench, calls[i].function, calls[i].answer);
+    }
 }
 
 /* Refusals of a release behind 5, with every start place that is allowed: no byte changes. */
@@ -1773,6 +1906,10 @@ static void group_releases(struct bench *bench)
         for (size_t volume = 0; volume < SMALL_VOLUMES; volume++)
             for (size_t i = 0; i < sizeof owners; i++) case_release(bench, volume, start_place, owners[i]);
         case_refused_release(bench, start_place);
+    }
+    for (size_t place = 0; place < HIWALGAM_VOLUMES * SMALL_P; place++) {
+        case_bad_entry(bench, place, SMALL_P);
+        case_bad_entry(bench, place, HIWALGAM_UNMAPPED - 1);
     }
     case_permutations(bench);
 }
@@ -1962,9 +2099,26 @@ static void case_behind_the_end(struct bench *bench, size_t volume, uint64_t cou
 }
 
 /*
- * Every count that is allowed, in each row: the last block, those behind it, and a close, which is 9 where the entry of the
- * last logical slice stands at the count or past it.
+ * A claim and a release, without a tape: 9 where an entry of the volume stands at the count or past it, as that of its last
+ * logical slice does with a lower count, and else 21. Volume 1 has one logical slice, and no claim.
  */
+static void case_entry_past_the_end(struct bench *bench, size_t volume, uint64_t count)
+{
+    const int past = count < COUNTED[volume];
+    const size_t answer = past ? (size_t)HIWALGAM_BAD_ENTRY : (size_t)HIWALGAM_TAPE_SHORT;
+
+    if (volume != 1) {
+        lend_count(bench, volume, count, volume, 0);
+        lend_null(bench, TAPE);
+        expect_written(bench, 0, 0, past ? 0 : 1);
+        check_call(bench, WRITE, answer);
+    }
+    lend_count(bench, volume, count, volume, past ? 0 : COUNTED_S * COUNTED[volume] - 1);
+    lend_null(bench, TAPE);
+    check_call(bench, RELEASE, answer);
+}
+
+/* Every count that is allowed, in each row: the last block, those behind it, entries there, and a close, judging none. */
 static void group_ends(struct bench *bench)
 {
     if (!open_counted(bench)) return;
@@ -1973,9 +2127,9 @@ static void group_ends(struct bench *bench)
             lend_count(bench, volume, count, volume, COUNTED_S * count - 1);
             check_served(bench, READ);
             case_behind_the_end(bench, volume, count);
+            case_entry_past_the_end(bench, volume, count);
             lend_count(bench, volume, count, volume, 0);
-            if (count >= COUNTED[volume]) check_served(bench, CLOSE);
-            else check_call(bench, CLOSE, HIWALGAM_BAD_ENTRY);
+            check_closed(bench);
         }
 }
 
@@ -2462,14 +2616,14 @@ static void case_shared(struct bench *bench, int function, int part, int owner)
     check_call(bench, function, HIWALGAM_SERVED);
 }
 
-/* The permutation of a release may stand in the device, in its 16 salt bytes, which nothing reads. */
-static void case_permutation_in_device(struct bench *bench)
+/* The permutation of a release may stand in the tape, where its bytes are the IV too. */
+static void case_permutation_in_tape(struct bench *bench)
 {
     const struct bytes *permutation = &bench->parts[PERMUTATION].kept;
 
-    if (bench->placement == UNALIGNED) return; /* the device is not aligned there */
-    memcpy(bench->parts[DEVICE].kept.at, permutation->at, permutation->length);
-    case_shared(bench, RELEASE, PERMUTATION, DEVICE);
+    if (bench->placement == UNALIGNED || bench->placement == AT_END) return; /* the tape is not aligned there */
+    memcpy(bench->parts[TAPE].kept.at, permutation->at, permutation->length);
+    case_shared(bench, RELEASE, PERMUTATION, TAPE);
 }
 
 /* The geometry of a shuffle may stand in the tape, where its bytes are draws too. */
@@ -2490,7 +2644,7 @@ static void group_overlap(struct bench *bench)
     bench->address = SMALL_MAPPED;
     case_shared(bench, READ, OWNERS, DEVICE);
     case_shared(bench, FORMAT, KEY, TAPE);
-    case_permutation_in_device(bench);
+    case_permutation_in_tape(bench);
     case_geometry_in_tape(bench);
 
     lend_empty_state(bench);
@@ -2520,7 +2674,8 @@ static const struct group GROUPS[] = {
     { "ignored.txt", run_transcript }, { "lengths.txt", run_transcript }, { "format.txt", run_transcript },
     { "format-sizes.txt", run_transcript }, { "format-refusals.txt", run_transcript },
     { "lower-cells.txt", run_transcript }, { "start-places.txt", run_transcript }, { "counts.txt", run_transcript },
-    { "format-counts.txt", run_transcript }, { "releases.txt", run_transcript }, { "shuffles.txt", run_transcript },
+    { "format-counts.txt", run_transcript }, { "releases.txt", run_transcript }, { "map-blocks.txt", run_transcript },
+    { "dropped.txt", run_transcript }, { "shuffles.txt", run_transcript },
     { "sizes of structs", group_struct_sizes }, { "NULL", group_null }, { "closed sessions", group_closed },
     { "layout of a session", group_layout }, { "start places", group_start_places },
     { "start places above P", group_start_above }, { "releases", group_releases }, { "shuffles", group_shuffles },
@@ -2541,6 +2696,7 @@ static void run_group(const struct group *group, const char *folder, int placeme
     bench.group = group->name;
     bench.placement = placement;
     group->run(&bench);
+    forget_opener(&bench);
     for (int part = 0; part < PARTS; part++) {
         take_back(&bench, part);
         free(bench.parts[part].expected.at);

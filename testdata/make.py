@@ -67,8 +67,10 @@ class Noise:
 # -------------------------------------------------------------------------------------------------------------- ciphers
 
 
+@functools.lru_cache(maxsize=4096)
 def counter_mode(key, iv, text):
-    """AES-256 in counter mode: the IV is the first counter, each next adds one, all FF is followed by all 00."""
+    """AES-256 in counter mode: the IV is the first counter, each next adds one, all FF is followed by all 00. What it gave
+    is kept, since the same blocks are deciphered again and again."""
     assert len(key) == 32 and len(iv) == 16
     first = int.from_bytes(iv, "big")
     blocks = (len(text) + 15) // 16
@@ -485,24 +487,23 @@ def standing(lent):
 
 
 def asked(lent, g, volume, address, length):
-    """What read and write refuse next: 11, 12, 13, 9. Gives the place of the asked entry, the entry, and the offset."""
+    """What read and write refuse next: 11, 12, 13, 9. Gives the asked entry and the offset."""
     if volume > lent.session.k:
         raise Refused(11)
     if address >= lent.session.counts[volume] * g.S:
         raise Refused(12)
     if length != g.B:
         raise Refused(13)
-    place = volume * g.P + address // g.S
-    entry = lent.maps[place]
+    entry = lent.maps[volume * g.P + address // g.S]
     if entry != MARK and entry >= g.P:
         raise Refused(9)
-    return place, entry, address % g.S
+    return entry, address % g.S
 
 
 def read(lent, volume, address, length):
     """The block's bytes, for a buffer of that length. Unmapped gives B zero bytes."""
     g = standing(lent)
-    _, psi, j = asked(lent, g, volume, address, length)
+    psi, j = asked(lent, g, volume, address, length)
     if psi == MARK:
         return bytes(g.B)
     iv = bytes(lent.device[g.iv(psi, j) : g.iv(psi, j) + 16])
@@ -513,10 +514,29 @@ def find(lent, volume, address):
     """Length and place of the block's ciphertext; empty where a read with a right buffer is refused, or unmapped."""
     try:
         g = standing(lent)
-        _, psi, j = asked(lent, g, volume, address, g.B)
+        psi, j = asked(lent, g, volume, address, g.B)
     except Refused:
         return 0, 0
     return (0, 0) if psi == MARK else (g.B, g.data(psi, j))
+
+
+def judge_map_block(lent, g, volume, logical):
+    """What a claim and a release refuse by 9: a bad entry anywhere in the map block of the asked one. Such an entry is not
+    the mark, and is no slice or stands at the volume's count or past it."""
+    first = logical // g.entries * g.entries
+    for sigma in range(first, min(first + g.entries, g.P)):
+        entry = lent.maps[volume * g.P + sigma]
+        if entry != MARK and (entry >= g.P or sigma >= lent.session.counts[volume]):
+            raise Refused(9)
+
+
+def set_entry(lent, g, volume, logical, entry, iv):
+    """Sets an entry in the map table, and stores the map block that holds it, made of the table as it then is."""
+    lent.maps[volume * g.P + logical] = entry
+    n = logical // g.entries
+    row = lent.maps[volume * g.P : (volume + 1) * g.P] + [MARK] * (g.m * g.entries - g.P)
+    text = b"".join(number(e) for e in row[n * g.entries : (n + 1) * g.entries])
+    lent.store(g.map_block(volume, n), iv + counter_mode(lent.session.keys[volume], iv, text))
 
 
 def write(lent, volume, address, text):
@@ -524,7 +544,7 @@ def write(lent, volume, address, text):
     g = standing(lent)
     if len(lent.permutation) != g.P:
         raise Refused(5)
-    place, psi, j = asked(lent, g, volume, address, len(text))
+    psi, j = asked(lent, g, volume, address, len(text))
     vek = lent.session.keys[volume]
 
     if psi != MARK:
@@ -534,6 +554,7 @@ def write(lent, volume, address, text):
         return "rewritten", psi, 0
 
     # The claim takes the first place in the permutation, from the start place on, whose slice has owner 0.
+    judge_map_block(lent, g, volume, address // g.S)
     start = lent.session.start
     probes = 0
     while True:
@@ -547,18 +568,20 @@ def write(lent, volume, address, text):
         if lent.owners[psi] == 0:
             break
 
-    # B tape bytes become the whole IV block; all S data blocks are written, zeros except the one asked for.
-    ivs = lent.draw(g.B, probes)
+    # B tape bytes become the whole IV block; all S data blocks are written, zeros except the one asked for. The next 16
+    # become the IV of the map block.
+    drawn = lent.draw(g.B + 16, probes)
+    ivs, map_iv = drawn[: g.B], drawn[g.B :]
     blocks = [counter_mode(vek, ivs[16 * n : 16 * n + 16], text if n == j else bytes(g.B)) for n in range(g.S)]
     lent.store(g.slice(psi), ivs + b"".join(blocks))
-    lent.maps[place] = psi
+    set_entry(lent, g, volume, address // g.S, psi, map_iv)
     lent.owners[psi] = volume + 1
     lent.session = lent.session._replace(start=start + probes)
     return "claimed", psi, probes
 
 
 def release(lent, volume, logical):
-    """Answers the slice freed. The tables and the start place change; no byte of the device does, and no tape is taken."""
+    """Answers the slice freed. Of the device the map block changes that holds the entry, and nothing else."""
     g = standing(lent)
     if sorted(lent.permutation) != list(range(g.P)):
         raise Refused(5)
@@ -566,37 +589,22 @@ def release(lent, volume, logical):
         raise Refused(11)
     if logical >= lent.session.counts[volume]:
         raise Refused(12)
+    judge_map_block(lent, g, volume, logical)
     psi = lent.maps[volume * g.P + logical]
-    if psi != MARK and psi >= g.P:
-        raise Refused(9)
     if psi == MARK:
         raise Refused(25)
-    lent.maps[volume * g.P + logical] = MARK
+    set_entry(lent, g, volume, logical, MARK, lent.draw(16))
     lent.owners[psi] = 0
     lent.session = lent.session._replace(start=min(lent.session.start, lent.permutation.index(psi)))
     return psi
 
 
 def close(lent):
-    """Writes the maps of volumes 0 to k in order, each block with a fresh IV, and wipes tables and keys. The session's
-    numbers stay, its start place and its counts too."""
+    """Wipes tables and keys. The device stays, and the session's numbers do, its start place and its counts too."""
     g = standing(lent)
-    session = lent.session
-    rows = [lent.maps[i * g.P : (i + 1) * g.P] for i in range(session.k + 1)]
-    for i, row in enumerate(rows):
-        for sigma, entry in enumerate(row):
-            if entry != MARK and (entry >= g.P or sigma >= session.counts[i]):
-                raise Refused(9)
-    ivs = lent.draw(16 * g.m * (session.k + 1))
-    for i, row in enumerate(rows):
-        whole = row + [MARK] * (g.m * g.entries - g.P)
-        for n in range(g.m):
-            iv, ivs = ivs[:16], ivs[16:]
-            entries = whole[n * g.entries : (n + 1) * g.entries]
-            lent.store(g.map_block(i, n), iv + counter_mode(session.keys[i], iv, b"".join(number(e) for e in entries)))
     lent.maps = [MARK] * (VOLUMES * g.P)
     lent.owners = [0] * g.P
-    lent.session = session._replace(open=0, keys=(NO_KEY,) * VOLUMES)
+    lent.session = lent.session._replace(open=0, keys=(NO_KEY,) * VOLUMES)
 
 
 # ---------------------------------------------------------------------------------------------------------- transcripts
@@ -755,14 +763,32 @@ def apply(lent, line):
 OTHER_SESSION = f"4096 3 2 1 1 1 2,1,2,1,2,1,2,1,2,1,2,1,2,1,2 {Noise('no session').take(32).hex()}"
 
 
+# What the caller may set in the middle of a session without altering device, tables or session.
+BESIDE_A_SESSION = ("geometry", "permutation", "order", "tape", "position")
+
+
+def all_blocks(lent):
+    """Every block of the open volumes."""
+    session = lent.session
+    volumes = enumerate(session.counts[: session.k + 1])
+    return {(i, address): read(lent, i, address, session.B) for i, N in volumes for address in range(N * session.S)}
+
+
 class Transcript:
-    """Runs a scenario on the model and writes it down. Each call has its expected answer as an argument."""
+    """Runs a scenario on the model and writes it down. Each call has its expected answer as an argument.
+
+    Beside the model stands an array of blocks for each open volume, from a served opening on, while device, tables and
+    session pass on from call to call. After each call the device, opened anew, has to hold these arrays: a session can be
+    dropped there.
+    """
 
     def __init__(self, name, *about):
         self.name = name
         self.lines = [f"# {line}" for line in about]
         self.lent = Lent()
         self.images = []  # those that the device became
+        self.opener = None  # the key of the session, while everything passes on from its opening
+        self.blocks = {}
 
     def say(self, *about):
         self.lines += [""] + [f"# {line}" for line in about]
@@ -770,6 +796,8 @@ class Transcript:
     def given(self, line):
         apply(self.lent, line)
         self.lines.append(f"given {line}")
+        if line.split(" ")[0] not in BESIDE_A_SESSION:
+            self.opener = None
 
     def given_bytes(self, at, data):
         self.given(f"bytes {at} {add('patches.bin', data)} {len(data)}")
@@ -800,6 +828,21 @@ class Transcript:
             apply(self.before, then)
         for part in ("device", "geometry", "maps", "owners", "permutation", "tape", "position", "session"):
             assert getattr(self.before, part) == getattr(self.lent, part), f"{where}: {part}"
+        if self.opener is not None:
+            self.check_dropped(where)
+
+    def check_dropped(self, where):
+        """The session is dropped here: with its key the device opens to the tables held, and all blocks are those written."""
+        session = self.lent.session
+        again = Lent()
+        again.device = bytearray(self.lent.device)
+        again.geometry = Geometry(session.B, session.S, session.P)
+        again.maps, again.owners = [0] * (VOLUMES * session.P), [9] * session.P
+        again.permutation = Noise(where).shuffled(range(session.P))
+        assert open_device(again, self.opener) == session.k, where
+        assert (again.session.counts, again.session.keys) == (session.counts, session.keys), where
+        assert (again.maps, again.owners) == (self.lent.maps, self.lent.owners), where
+        assert all_blocks(again) == all_blocks(self.lent) == self.blocks, where
 
     def begin(self):
         self.tail = ""
@@ -827,6 +870,21 @@ class Transcript:
         wanted = counts + (0,) * (VOLUMES - len(counts))
         assert self.lent.session.counts == wanted, f"{self.name}: counts {self.lent.session.counts}, not {wanted}"
 
+    def stores(self, *expected):
+        """What the call before stored, as a hand worked it out: from which byte on, how many, and with which tape bytes these
+        begin, from which position on and how many."""
+        stored = self.lent.stored
+        assert [(at, len(data)) for at, data, _ in stored] == [place[:2] for place in expected], f"{self.name}: {expected}"
+        for (_, data, _), (_, _, position, drawn) in zip(stored, expected):
+            assert data[:drawn] == self.lent.tape[position : position + drawn], f"{self.name}: {expected}"
+
+    def map_block_is(self, at, volume, entries):
+        """The map block from that byte of the device on, as a hand worked it out: these entries, and then the mark in all."""
+        B = self.lent.session.B
+        iv, data = bytes(self.lent.device[at : at + 16]), bytes(self.lent.device[at + 16 : at + B])
+        held = counter_mode(self.lent.session.keys[volume], iv, data)
+        assert held == b"".join(map(number, entries)).ljust(B - 16, b"\xff"), f"{self.name}: {entries}"
+
     def format(self, keys, expected, volumes=None, counts=None):
         """With a list of keys, or with the bytes of all and the number of volumes. The counts are P, unless others are
         given."""
@@ -838,6 +896,7 @@ class Transcript:
         thens = []
         try:
             format_device(self.lent, volumes, keys, counts)
+            self.opener = None
             outcome = "0"
             thens = [f"position {self.lent.position}"]
         except Refused as refused:
@@ -862,9 +921,11 @@ class Transcript:
     def open(self, key, expected):
         self.spoil()
         self.begin()
+        self.opener = None
         P = self.lent.geometry.P
         try:
             outcome = f"0 {open_device(self.lent, key)}"
+            self.opener, self.blocks = key, all_blocks(self.lent)
             thens = [f"maps {VOLUMES * P} -"]
             for i in range(VOLUMES):
                 row = self.lent.maps[i * P : (i + 1) * P]
@@ -875,6 +936,14 @@ class Transcript:
             outcome = str(refused.number)
             thens = [f"maps {VOLUMES * P} -", f"owners {words([0] * P)}"] if refused.number >= 6 else []
         self.called(f"open {hexed(key)}", expected, outcome, thens + [f"session {session_words(self.lent.session)}"])
+
+    def drop(self, permutation):
+        """The session is dropped, and the device opened again with its key: every block holds what it held."""
+        key, blocks = self.opener, self.blocks
+        assert key is not None, self.name
+        self.given(f"permutation {words(permutation)}")
+        self.open(key, f"0 {self.lent.session.k}")
+        self.reads(*((volume, address, data) for (volume, address), data in blocks.items()))
 
     def read(self, volume, address, expected, text=None, length=None):
         self.begin()
@@ -905,6 +974,7 @@ class Transcript:
         thens = []
         try:
             kind, psi, probes = write(self.lent, volume, address, text)
+            self.blocks[volume, address] = text
             outcome = f"0 {kind} {psi} {probes}"
             if kind == "claimed":
                 thens = [f"entry {volume} {address // self.lent.session.S} {psi}", f"owner {psi} {volume + 1}"]
@@ -921,8 +991,11 @@ class Transcript:
         thens = []
         try:
             psi = release(self.lent, volume, logical)
+            S = self.lent.session.S
+            self.blocks.update(((volume, logical * S + j), bytes(self.lent.session.B)) for j in range(S))
             outcome = f"0 {psi}"
             thens = [f"entry {volume} {logical} -", f"owner {psi} 0", f"start {self.lent.session.start}"]
+            thens.append(f"position {self.lent.position}")
         except Refused as refused:
             outcome = str(refused.number)
         self.called(f"release {volume} {logical}", expected, outcome, thens)
@@ -931,10 +1004,10 @@ class Transcript:
         self.begin()
         try:
             close(self.lent)
+            self.opener = None
             outcome = "0"
             P = self.lent.session.P
-            thens = [f"maps {VOLUMES * P} -", f"owners {words([0] * P)}", f"position {self.lent.position}"]
-            thens.append(f"session {session_words(self.lent.session)}")
+            thens = [f"maps {VOLUMES * P} -", f"owners {words([0] * P)}", f"session {session_words(self.lent.session)}"]
         except Refused as refused:
             outcome = str(refused.number)
             thens = []
@@ -943,7 +1016,8 @@ class Transcript:
     def image(self, name):
         """The device is now a file of its own, whole."""
         device = bytes(self.lent.device)
-        assert FILES.setdefault(name, device) == device, f"{self.name}: {name}"
+        made = FILES.setdefault(name, device)
+        assert made == device, f"{self.name}: {name}"
         self.images.append(name)
         self.lines.append(f"image {name}")
 
@@ -958,7 +1032,7 @@ class Transcript:
                         where = f"{name} {at}"
                 line = f"then bytes {at} {where or add('patches.bin', data)} {len(data)}"
             out.append(line)
-        assert all(len(line) < 2048 for line in out)
+        assert all(len(line) < 4096 for line in out)
         FILES[self.name] = ("\n".join(out) + "\n").encode()
 
 
@@ -1006,21 +1080,19 @@ def small_blocks(*volumes):
                 yield volume, address, small_text(volume, address) if (volume, address) in SMALL_BLOCKS else None
 
 
+def small_tape():
+    """At 23 the IV block of a claim: its blocks 0 to 3 have their IVs at 23, 39, 55, 71. At 1047 the IV of its map block, at
+    1063 that of a rewrite."""
+    return tape("small", 1280, at_39=FF16, at_55=FF16[:15] + b"\xfe", at_1047=FF16, at_1067=FF16[:12])
+
+
 def small():
     """The life of a session."""
     image = small_image()
     FILES["small.img"] = bytes(image.device)
     key = image.key
     t = Transcript("small.txt", "A session from opening to close, and what the next one finds.")
-    t.lend(
-        "small.img",
-        SMALL,
-        [2, 0, 3, 1],
-        # At 23 the IV block of a claim: its blocks 0 to 3 have their IVs at 23, 39, 55, 71. At 1047 the IV of a rewrite.
-        # At 1095 those of a close: volumes 0 to 2 at 1095, 1111, 1127.
-        tape("small", 1280, at_39=FF16, at_55=FF16[:15] + b"\xfe", at_1051=FF16[:12], at_1111=FF16),
-        7,
-    )
+    t.lend("small.img", SMALL, [2, 0, 3, 1], small_tape(), 7)
     t.say("Key 0 opens volume 0 alone.")
     t.open(key[0], "0 0")
     t.starts(1)
@@ -1067,7 +1139,9 @@ def small():
     t.write(2, 0, small_text(2, 0, "second"), "0 rewritten 3 0")
     t.write(1, 2, small_text(1, 2, "second"), "0 rewritten 1 0")
     t.reads((1, 2, small_text(1, 2, "second")), (2, 0, small_text(2, 0, "second")), (2, 1, small_text(2, 1)))
-    t.say("The close, and the device as it leaves it.")
+    t.say("The device that the session leaves, and the close, which alters nothing of it.")
+    assert t.lent.position == 7 + 16 + 1040 + 3 * 16
+    t.image("small-after.img")
     t.close("0")
     t.image("small-after.img")
     t.say("Nothing is served by a closed session.")
@@ -1096,7 +1170,7 @@ def small():
         (2, 3, small_text(2, 3)),
         (2, 15, None),
     )
-    t.say("The maps went to each volume's own place: key 0 and key 1 open as before.")
+    t.say("The map went to its own volume's place: key 0 and key 1 open as before.")
     t.open(key[0], "0 0")
     t.reads((0, 7, small_text(0, 7, "second")))
     t.open(key[1], "0 1")
@@ -1104,25 +1178,55 @@ def small():
     t.finish()
 
 
+def check_small_after():
+    """small-after.img taken apart, with places worked out by hand. Its session took tape bytes 7 to 1,110."""
+    image = small_image()
+    name, offset, length = small_tape().split(" ")
+    drawn = FILES[name][int(offset) : int(offset) + int(length)]
+    device = FILES["small-after.img"]
+    whole = bytearray(image.device)
+    first = {1: small_text(1, 1), 2: small_text(1, 2, "second")}
+    for at, size, position in (
+        (42032, 16, 7), (46080, 1024, None),  # the rewrite of block 7 of volume 0: its IV, and the block
+        (36864, 1024, 23), (37888, 1024, None), (38912, 1024, None), (39936, 1024, None), (40960, 1024, None),  # the claim
+        (4096, 16, 1047), (4112, 1008, None),  # its map block
+        (36896, 16, 1095), (47104, 16, 1079), (48128, 1024, None),  # the last rewrites of blocks 2 and 0 of volumes 1 and 2
+    ):
+        put(whole, at, device[at : at + size])
+        assert position is None or at == 36864 or device[at : at + 16] == drawn[position : position + 16], at
+    assert whole == device
+    filler = device[36864:36896] + device[36912:37888]
+    assert filler == drawn[23:55] + drawn[71:1047]
+    assert counter_mode(image.vek[1], device[4096:4112], device[4112:5120]) == number(1) + FF16[:8] + number(0) + b"\xff" * 992
+    for j in range(4):
+        iv, at = device[36864 + 16 * j : 36880 + 16 * j], 37888 + 1024 * j
+        assert counter_mode(image.vek[1], iv, device[at : at + 1024]) == first.get(j, bytes(1024))
+
+
 def above():
     """Claims that are not closed, and claims below a volume that is not open."""
     image = small_image()
     key = image.key
-    t = Transcript("above.txt", "Claims that are lost, and slices that volumes above k lose.")
+    t = Transcript("above.txt", "Claims without a close, and slices that volumes above k lose.")
     t.lend("small.img", SMALL, [0, 1, 2, 3], tape("above", 5632, at_16=FF16), 0)
-    t.say("A claim without a close is lost: the next opening finds the slice free and the block unmapped.")
+    t.say("A claim without a close is on the device: the next opening finds the slice held and the block written.")
     t.open(key[2], "0 2")
     t.starts(1)
     t.write(0, 0, small_text(0, 0), "0 claimed 1 1")
     t.starts(2)
     t.reads((0, 0, small_text(0, 0)))
     t.open(key[2], "0 2")
-    t.starts(1)
-    t.reads((0, 0, None))
-    t.find(0, 0, "0")
-    t.write(2, 9, small_text(2, 9), "0 claimed 1 1")
-    t.reads((2, 8, None), (2, 9, small_text(2, 9)))
+    t.starts(4)
+    t.reads((0, 0, small_text(0, 0)), (0, 1, None))
+    t.find(0, 0, "1024 37888")
+    t.write(2, 9, small_text(2, 9), "22 0")
+    t.say("For the other keys too. Key 0 finds the slices of volumes 1 and 2 free, key 1 that of volume 2.")
+    for i, place in ((0, 0), (1, 3), (2, 4)):
+        t.open(key[i], f"0 {i}")
+        t.starts(place)
+        t.reads((0, 0, small_text(0, 0)), *small_blocks(*range(i + 1)))
     t.say("With key 0 the slices of volumes 1 and 2 are free, and claims take them, each one the next.")
+    t.given("device small.img 52224")
     t.given("permutation 3 2 0 1")
     t.open(key[0], "0 0")
     t.starts(0)
@@ -1140,6 +1244,19 @@ def above():
     t.open(key[1], "10")
     t.open(key[2], "10")
     t.open(key[0], "0 0")
+    t.say("So they do after the first such claim, without a close; once it is given back they open, to what it left.")
+    t.given("device small.img 52224")
+    t.given("position 0")
+    t.open(key[0], "0 0")
+    t.write(0, 3, small_text(0, 3), "0 claimed 3 1")
+    t.open(key[2], "10")
+    t.open(key[1], "0 1")
+    t.reads((0, 3, small_text(0, 3)), (1, 13, small_text(1, 13)))
+    t.release(0, 0, "0 3")
+    t.open(key[2], "0 2")
+    t.find(2, 0, "1024 48128")
+    t.read(2, 0, "0")
+    t.reads((0, 3, None), (1, 13, small_text(1, 13)))
     t.finish()
 
 
@@ -1322,21 +1439,39 @@ def refusals():
         t.write(0, 12, (some * 4)[:length], "13 0")
         t.write(0, 4, (some * 4)[:length], "13 0")
 
-    t.say("9: the asked entry alone is judged.")
+    t.say("9: a read judges the asked entry alone, and so does a rewrite, which then is 21: the position is past the end.")
     for volume, address in ((0, 12), (0, 15), (1, 8)):
         t.read(volume, address, "9")
         t.find(volume, address, "0")
         t.write(volume, address, some, "9 0")
     t.reads((0, 0, None), (0, 4, small_text(0, 4)), (1, 13, small_text(1, 13)))
     t.find(0, 4, "1024 43008")
-    t.release(0, 3, "9")
-    t.release(1, 2, "9")
+    t.write(0, 4, some, "21 0")
+    t.write(1, 13, some, "21 0")
+    t.say("A claim and a release judge every entry of the map block, a release also where the asked entry is the mark or a slice.",
+          "It comes before 5 and 22, 25 and 21.")
+    for permutation, owners in (("2 0 3 1", "2 0 1 0"), ("4 4 4 4", "2 0 1 0"), ("2 0 3 1", "2 9 1 9")):
+        t.given(f"permutation {permutation}")
+        t.given(f"owners {owners}")
+        for volume, address in ((0, 0), (0, 8), (0, 11), (1, 0), (1, 4)):
+            t.write(volume, address, some, "9 0")
+    for volume, logical in ((0, 0), (0, 1), (0, 2), (0, 3), (1, 0), (1, 1), (1, 2), (1, 3)):
+        t.release(volume, logical, "9")
     for entry in (5, 8, 256, 257, 4097, 65536 + 2, 2**31, 2**31 + 2, MARK - 1):
         t.given(f"entry 0 3 {entry}")
+        t.write(0, 0, some, "9 0")
         t.release(0, 3, "9")
+        t.release(0, 1, "9")
+    t.given("owners 2 0 1 0")
     t.given("entry 0 3 4")
+    t.given("row 1 - - - 0")
+    t.say("In the other volume's row it is not seen: there a claim is 21, and a release 25 or 21.")
+    t.write(1, 0, some, "21 1")
+    t.release(1, 0, "25")
+    t.release(1, 3, "21")
+    t.given("entry 0 3 -")
 
-    t.say("25: a release of a logical slice that has no slice.")
+    t.say("25: a release of a logical slice that has no slice. It comes before 21.")
     for volume, logical in ((0, 0), (0, 2), (1, 0), (1, 1)):
         t.release(volume, logical, "25")
 
@@ -1360,12 +1495,16 @@ def refusals():
     t.given("owners 2 0 1 3")
     t.given("start 0")
 
-    t.say("21: the position past the end, or too few bytes left. A claim's carries its probes, a rewrite's none.")
-    for position in (3073, 4080, 4095, 4096, 4097, 2**32, 2**63, 2**64 - 1024, 2**64 - 1):
+    t.say("21: the position past the end, or too few bytes left: 1,040 for a claim, 16 for a rewrite and for a release. A claim's",
+          "carries its probes, a rewrite's none.")
+    for position in (3057, 3072, 3073, 4080, 4081, 4095, 4096, 4097, 2**32, 2**63, 2**64 - 1040, 2**64 - 1024, 2**64 - 16,
+                     2**64 - 1):
         t.given(f"position {position}")
         t.write(0, 0, some, "21 4")
         if position > 4080:
             t.write(0, 4, some, "21 0")
+            t.release(0, 1, "21")
+            t.release(1, 3, "21")
     t.given("owners 2 0 1 0")
     t.write(0, 0, some, "21 3")
     t.given("permutation 1 2 3 0")
@@ -1379,30 +1518,27 @@ def refusals():
     t.write(0, 0, some, "22 0")
     t.given("start 1")
 
-    t.say("Close, 9: a bad entry in rows 0 to k, before 21.")
-    t.close("9")
-    t.given("row 0 - 2 - -")
-    t.close("9")
-    t.given("row 0 - 2 - 4")
-    t.given("row 1 - - - 0")
-    t.close("9")
-    t.given("row 0 - 2 - -")
-    t.say("A bad entry above k is none. 21 with 31 bytes left, and past the end.")
-    t.given("row 2 4 4294967294 2 0")
-    for position in (4065, 4096, 4097, 2**64 - 32, 2**64 - 1):
-        t.given(f"position {position}")
-        t.close("21")
-
-    t.say("Served with exactly as many bytes as are needed: a claim with 1,024, a rewrite with 16, a close with 32.")
-    t.given("position 3072")
+    t.say("Served with exactly as many bytes as are needed: a claim with 1,040, a rewrite and a release with 16.")
+    t.given("position 3056")
     t.write(0, 0, some, "0 claimed 3 2")
     t.given("position 4080")
     t.write(0, 1, some, "0 rewritten 3 0")
-    t.given("position 4064")
-    t.close("0")
-    t.starts(3)
+    t.given("position 4080")
+    t.release(1, 3, "0 0")
+    t.starts(1)
+    t.say("A close takes no tape and judges no entry: it is served with bad ones in every row, and with any position.")
+    held = session_words(t.lent.session)
+    for position in (4096, 4097, 2**64 - 1):
+        t.given(f"session {held}")
+        t.given(f"position {position}")
+        t.given("maps 60 4")
+        t.given("row 2 4 4294967294 2 0")
+        t.given("owners 2 9 0 255")
+        t.close("0")
+        t.starts(1)
+        t.close("20")
     t.open(key[1], "0 1")
-    t.reads((0, 0, some), (0, 1, some), (0, 2, None), (0, 4, small_text(0, 4)), (1, 13, small_text(1, 13)))
+    t.reads((0, 0, some), (0, 1, some), (0, 2, None), (0, 4, small_text(0, 4)), (1, 13, None))
     t.finish()
 
 
@@ -1461,16 +1597,28 @@ def tables():
     t.read(1, 13, "11")
     t.close("0")
 
-    t.say("A close does not look for slices that are named twice; the next opening does.")
-    t.given("maps 60 -")
-    t.given("row 0 1 2 - -")
-    t.given("row 1 - - 3 0")
-    t.given("row 2 3 - - -")
-    t.given("owners 2 1 1 3")
-    t.given(f"session 1024 4 4 2 1 3 4,4,4 {words(all_keys[:3])}")
+    t.say("A close stores nothing of such tables: the device opens as before.")
+    twice = ("maps 60 -", "row 0 1 2 - -", "row 1 - - 3 0", "row 2 3 - - -", "owners 2 1 1 3")
+    for line in ("device small.img 52224", *twice, f"session 1024 4 4 2 1 3 4,4,4 {words(all_keys[:3])}"):
+        t.given(line)
     t.close("0")
+    t.image("small.img")
+    t.open(image.key[2], "0 2")
+    t.reads(*small_blocks(0, 1, 2))
+    t.say("Nor do claims and releases look for slices that are named twice, slice 3 here; the next opening does. They store the map",
+          "block of the asked entry as the table has it: of volume 1 by the release, which key 0 does not see; of volume 0 by the",
+          "claim.")
+    for line in ("position 0", *twice):
+        t.given(line)
+    t.release(1, 3, "0 0")
     t.open(image.key[1], "0 1")
+    t.starts(0)
     t.open(image.key[2], "10")
+    t.open(image.key[0], "0 0")
+    t.given("row 0 2 2 - -")
+    t.write(0, 8, some, "0 claimed 0 1")
+    for i in range(3):
+        t.open(image.key[i], "10")
 
     t.say("All 15 volumes of a session, with no key for those above 2: their key is zeros.")
     t.given("device small.img 52224")
@@ -1512,8 +1660,8 @@ def twomaps():
     written = {place: text(f"two-maps, block {place[1]} of volume {place[0]}, written", g.B) for place in
                ((1, 251), (1, 255), (0, 253), (0, 256), (0, 1))}
     t = Transcript("two-maps.txt", "Two map blocks for each volume: entries 0 to 251 in the first, 252 to 256 in the second.")
-    tape_words = tape("twomaps", 3200, at_3=FF16, at_3107=FF16)
-    t.lend("two-maps.img", g, permutation, tape_words, 3)
+    # The claims' IVs are at 3, 1043 and 2083, those of their map blocks at 1027, 2067 and 3107.
+    t.lend("two-maps.img", g, permutation, tape("twomaps", 3200, at_3=FF16, at_2067=FF16[:15] + b"\xc0", at_3107=FF16), 3)
     t.open(key[0], "0 0")
     t.reads(*((0, sigma, first[0, sigma]) for sigma in (0, 250, 252, 256)), (0, 251, None), (0, 253, None))
     t.open(key[1], "0 1")
@@ -1548,13 +1696,7 @@ def twomaps():
     t.given("start 200")
     t.write(0, 256, written[0, 256], "0 rewritten 252 0")
     t.reads(*((place[0], place[1], written[place]) for place in ((1, 251), (1, 255), (0, 253), (0, 256))))
-    t.say("A close needs 64 bytes: with 63 it is refused.")
-    position = t.lent.position
-    assert position == 3 + 3 * 1024 + 16
-    name, offset, length = tape_words.split(" ")
-    t.given(f"tape {name} {offset} {position + 63}")
-    t.close("21")
-    t.given(f"tape {tape_words}")
+    assert t.lent.position == 3 + 3 * 1040 + 16
     t.close("0")
     t.say("The next openings.")
     t.given(f"permutation {words(range(g.P - 1, -1, -1))}")
@@ -1588,8 +1730,8 @@ def fifteen():
     FILES["fifteen.img"] = bytes(image.device)
 
     t = Transcript("fifteen.txt", "Blocks of 4,096 bytes, all 15 volumes, counters that carry and that wrap.")
-    # At 1 the IV block of a claim, its IVs at 1 and 17; at 4097 the IV of a rewrite; at 4113 those of a close.
-    tape_words = tape("fifteen", 4096 + 384, at_1=FF16[:15] + b"\x01", at_17=FF16, at_4101=FF16[:12], at_4113=FF16)
+    # At 1 the IV block of a claim, its IVs at 1 and 17; at 4097 the IV of its map block; at 4113 the IV of a rewrite.
+    tape_words = tape("fifteen", 4096 + 384, at_1=FF16[:15] + b"\x01", at_17=FF16, at_4097=FF16, at_4117=FF16[:12])
     t.lend("fifteen.img", g, [3, 1, 0, 2], tape_words, 1)
     t.say("Key i opens volumes 0 to i.")
     for i in range(VOLUMES):
@@ -1611,12 +1753,9 @@ def fifteen():
     t.write(14, 0, rewritten, "0 rewritten 3 0")
     t.write(13, 0, claimed, "22 0")
     t.reads((3, 0, None), (3, 1, claimed), (14, 0, rewritten), (14, 1, first[14, 1]))
-    t.say("A close needs 240 bytes: with 239 it is refused.")
-    name, offset, length = tape_words.split(" ")
-    assert t.lent.position == 4113
-    t.given(f"tape {name} {offset} {4113 + 239}")
-    t.close("21")
-    t.given(f"tape {name} {offset} {4113 + 240}")
+    t.say("The device that the session leaves, and the close, which alters nothing of it.")
+    assert t.lent.position == 1 + 4112 + 16
+    t.image("fifteen-after.img")
     t.close("0")
     t.image("fifteen-after.img")
     t.say("The next openings.")
@@ -1644,7 +1783,7 @@ def widest():
     FILES["widest.img"] = bytes(image.device)
 
     t = Transcript("widest.txt", "One slice of 64 data blocks, whose IVs fill the IV block.")
-    # At 0 the IV of a rewrite, at 16 the IV block of a claim.
+    # At 0 the IV of a rewrite, at 16 the IV block of a claim, at 1040 the IV of its map block, to the tape's end.
     t.lend("widest.img", g, [0], tape("widest", 1056, at_0=FF16, at_1024=FF16), 0)
     t.open(image.key[1], "0 1")
     t.reads(*((1, j, data) for j, data in first.items()), (1, 2, None), (1, 32, None), (1, 61, None), (0, 0, None))
@@ -1666,6 +1805,9 @@ def widest():
     t.write(0, 63, claimed, "0 claimed 0 1")
     t.starts(1)
     t.reads((0, 0, None), (0, 1, None), (0, 62, None), (0, 63, claimed))
+    t.open(image.key[1], "10")
+    t.open(image.key[0], "0 0")
+    t.reads((0, 0, None), (0, 62, None), (0, 63, claimed))
     t.close("0")
     t.open(image.key[0], "0 0")
     t.reads((0, 0, None), (0, 62, None), (0, 63, claimed))
@@ -2116,8 +2258,6 @@ def format_sizes():
             t.write(volume, address, text(f"formatted, size {g.B}, block {address}", g.B), f"0 claimed {g.P - 1 - n} 1")
             t.starts(n + 1)
         if places:
-            if g.B == 4096:
-                t.given("position 0")
             t.close("0")
             t.open(key[-1], f"0 {count - 1}")
             t.reads(*((volume, address, text(f"formatted, size {g.B}, block {address}", g.B)) for volume, address in places))
@@ -2436,12 +2576,16 @@ def start_places():
     t.starts(1)
     t.write(0, 8, some, "0 claimed 3 2")
     t.starts(3)
-    t.say("A claim that is not closed is lost, and its place is the first free one again.")
+    t.say("Claims that are not closed are on the device, and the next opening finds their places held.")
     t.open(key[0], "0 0")
-    t.starts(0)
+    t.starts(3)
+    t.given("permutation 3 1 0 2")
+    t.open(key[0], "0 0")
+    t.starts(1)
 
     t.say("A 22 inside a session, with the start place below P: slice 1 is held now. The start place is then P, and stays so",
           "where the slice is free again, until the next opening.")
+    t.given("device small.img 52224")
     t.given("permutation 2 0 3 1")
     t.open(key[2], "0 2")
     t.given("owner 1 9")
@@ -2592,11 +2736,11 @@ def start_places():
         t.given("owners 2 0 1 0")
         t.given(f"start {start}")
         t.given(f"permutation {permutation}")
-        for position in (3585, 4609):
+        for position in (3569, 3585, 4609):
             t.given(f"position {position}")
             t.write(0, 8, some, f"21 {probes}")
             t.starts(start)
-        t.given("position 3584")
+        t.given("position 3568")
         t.write(0, 8, some, f"0 claimed {slice} {probes}")
         t.starts(start + probes)
         t.given("entry 0 2 -")
@@ -2615,10 +2759,9 @@ def start_places():
     t.given("position 4608")
     t.write(0, 4, some, "21 0")
     t.write(0, 0, some, "21 1")
-    t.close("21")
     t.given("entry 0 0 4")
     t.write(0, 0, some, "9 0")
-    t.close("9")
+    t.write(0, 8, some, "9 0")
     t.given("maps 59 -")
     t.write(0, 0, some, "4 0")
     t.close("4")
@@ -2708,7 +2851,7 @@ def counts():
     counts_in_sessions(t, image)
     counts_in_headers(t, image)
     counts_and_entries(t, image)
-    counts_at_close(t, image)
+    counts_and_map_blocks(t, image)
     counts_not_allowed(t, image)
     counts_of_two_maps(t)
     t.finish()
@@ -2757,12 +2900,16 @@ def counts_in_sessions(t, image):
         t.find(volume, address, "0")
         t.write(volume, address, some[:1023], "12 0")
         t.write(volume, address, some, "12 0")
-    t.say("Nor are they by calls on other blocks.")
+    t.say("Nor are they by reads, finds and rewrites of other blocks. A claim is 9, also before 22, but where its own row has none.")
     for volume, address, _ in last_texts:
         t.reads((volume, address, counted_text(volume, address, "second")))
+        t.write(volume, address, some, "21 0")
     t.reads((0, 0, None), (0, 12, None), (1, 1, None), (2, 0, None), (3, 7, None), (3, 5, None))
     t.read(3, 8, "13", length=1023)
-    t.write(0, 0, some, "22 5")
+    t.write(0, 0, some, "9 0")
+    t.write(3, 0, some, "9 0")
+    t.starts(2)
+    t.write(2, 0, some, "22 5")
     t.starts(7)
     t.holds(5, 1, 7, 3)
 
@@ -2950,39 +3097,65 @@ def counts_and_entries(t, image):
     t.given(whole)
 
 
-def counts_at_close(t, image):
-    """Entries that a close judges, and counts that the caller changed."""
+def counts_and_map_blocks(t, image):
+    """Entries that claims and releases judge, and counts that the caller changed."""
     key, whole, some, last_texts = image.key, COUNTED_WHOLE, SOME_COUNTED, LAST_TEXTS
-    t.say("Close, 9: an entry at the count of its row or past it. It comes before 21, and every byte stays.")
+    t.say("9 at a claim or a release: an entry at the count of the asked row or past it. It comes before 25 and 21, and every byte",
+          "stays. A rewrite does not see it, nor does a call of another volume.")
     t.open(key[3], "0 3")
     t.given("position 4609")
-    for i, N in ((0, 5), (1, 1), (3, 3)):
+    for i, N, mapped in ((0, 5, 1), (1, 1, 0), (3, 3, 2)):
         for sigma in range(N, 7):
             for entry in (2, 0, 7, MARK - 1) if sigma in (N, 6) else (4,):
                 t.given(f"entry {i} {sigma} {entry}")
-                t.close("9")
+                t.release(i, mapped, "9")
+                t.write(i, LAST[i], some, "21 0")
+                if N > 1:
+                    t.write(i, 0, some, "9 0")
+                    t.release(i, 0, "9")
+                t.write(2, 0, some, "21 1")
+                t.release(2, 6, "21")
+                t.release(2, 0, "25")
             t.given(f"entry {i} {sigma} -")
-    t.close("21")
+        t.release(i, mapped, "21")
+    t.say("The same for a claim of the only logical slice of volume 1.")
+    t.given("entry 1 0 -")
+    for sigma in range(1, 7):
+        t.given(f"entry 1 {sigma} 3")
+        t.write(1, 0, some, "9 0")
+        t.given(f"entry 1 {sigma} -")
+    t.write(1, 0, some, "21 1")
+    t.given("entry 1 0 3")
     t.say("Below it, a slice that is named twice is none, and a number that is no slice is 9.")
-    for i, sigma in ((0, 4), (1, 0), (2, 6), (3, 2)):
+    for i, sigma, asked in ((0, 4, 0), (2, 6, 3), (3, 2, 1)):
         t.given(f"entry {i} {sigma} 7")
-        t.close("9")
+        t.write(i, 3 * asked, some, "9 0")
+        t.release(i, asked, "9")
+        t.release(i, sigma, "9")
         t.given(f"entry {i} {sigma} 0")
-        t.close("21")
+        t.write(i, 3 * asked, some, "21 1")
+        t.release(i, asked, "25")
+        t.release(i, sigma, "21")
         t.given(f"entry {i} {sigma} {COUNTED_ROWS[i][sigma]}")
-    t.say("Rows above k are not judged: with key 1 open, the counts above are 0 and entries there are wiped.")
+    t.say("Rows above k are not judged, and of a row not what follows its P entries, which is the next row: with key 1 open, entries",
+          "above are bad, the counts there 0. A claim and a release are served, and a close wipes all.")
     t.open(key[1], "0 1")
-    for line in ("row 2 2 7 - - - - 5", "row 3 - - - 4 - - 8", "row 14 0 1 2 3 4 5 6", "position 4577"):
+    for line in ("row 2 7 7 - - - - 5", "row 3 - - - 4 - - 8", "row 14 0 1 2 3 4 5 6", "position 4592"):
         t.given(line)
-    t.close("21")
-    t.given("position 4576")
+    t.release(1, 0, "0 3")
+    t.starts(0)
+    t.given("position 3568")
+    t.write(1, 1, counted_text(1, 1, "third"), "0 claimed 3 1")
     t.close("0")
     t.holds(5, 1)
     t.open(key[3], "0 3")
     t.holds(5, 1, 7, 3)
-    t.reads(*last_texts)
+    t.reads((1, 0, None), (1, 1, counted_text(1, 1, "third")), (1, 2, None), last_texts[0], *last_texts[2:])
 
-    t.say("Counts that the caller lowers: blocks past them are 12, and a close is 9 while an entry stands there.")
+    t.say("Counts that the caller lowers: blocks past them are 12, and claims and releases are 9 while an entry stands there. A close",
+          "is served.")
+    t.given(whole)
+    t.open(key[3], "0 3")
     t.given("position 0")
     for i, lowered in ((0, (4, 3, 2, 1)), (2, (6, 5, 1)), (3, (2, 1))):
         for N in lowered:
@@ -2992,10 +3165,17 @@ def counts_at_close(t, image):
             t.write(i, LAST[i], some, "12 0")
             t.read(i, 3 * N, "12", length=0)
             t.reads((i, 3 * N - 1, None))
-            t.close("9")
+            t.write(i, 0, some, "9 0")
+            for logical in range(N):
+                t.release(i, logical, "9")
         t.reads(*(last_texts[:i] + last_texts[i + 1 :]))
         t.given(f"count {i} {COUNTS[i]}")
-    t.say("With that entry the mark it is served. The counts stay as they are handed in; the next opening has the headers'.")
+    t.given("count 0 1")
+    t.close("0")
+    t.holds(1, 1, 7, 3)
+    t.image("counts.img")
+    t.say("With that entry the mark the claim is served. The counts stay as they are handed in; the next opening has the headers'.")
+    t.open(key[3], "0 3")
     t.given("entry 2 6 -")
     t.given("owner 5 0")
     t.given("count 2 1")
@@ -3007,23 +3187,28 @@ def counts_at_close(t, image):
     t.holds(5, 1, 7, 3)
     t.reads((2, 2, counted_text(2, 2, "third")), (2, 3, None), (2, 20, None), (0, 14, counted_text(0, 14)))
 
-    t.say("Counts that the caller raises: a claim past the header's count is served, and so is the close. The next opening is 9.")
-    t.given(whole)
-    t.open(key[3], "0 3")
-    t.given("position 0")
-    t.given("count 1 2")
-    t.reads((1, 3, None), (1, 5, None))
-    t.read(1, 6, "12")
-    t.write(1, 5, counted_text(1, 5), "0 claimed 2 1")
-    t.reads((1, 5, counted_text(1, 5)), (1, 4, None), (1, 2, counted_text(1, 2)))
-    t.find(1, 5, "1024 43008")
-    t.given("count 1 1")
-    t.close("9")
-    t.given("count 1 2")
-    t.close("0")
-    t.holds(5, 2, 7, 3)
-    for k, answer in ((3, "9"), (2, "9"), (1, "9"), (0, "0 0")):
-        t.open(key[k], answer)
+    t.say("Counts that the caller raises: a claim past the header's count is served. The next opening is 9 where it was not given",
+          "back.")
+    for given_back in (True, False):
+        t.given(whole)
+        t.open(key[3], "0 3")
+        t.given("position 0")
+        t.given("count 1 2")
+        t.reads((1, 3, None), (1, 5, None))
+        t.read(1, 6, "12")
+        t.write(1, 5, counted_text(1, 5), "0 claimed 2 1")
+        t.reads((1, 5, counted_text(1, 5)), (1, 4, None), (1, 2, counted_text(1, 2)))
+        t.find(1, 5, "1024 43008")
+        t.given("count 1 1")
+        t.release(1, 0, "9")
+        t.given("count 1 2")
+        if given_back:
+            t.release(1, 1, "0 2")
+        t.close("0")
+        t.holds(5, 2, 7, 3)
+        for k in range(3, 0, -1):
+            t.open(key[k], f"0 {k}" if given_back else "9")
+        t.open(key[0], "0 0")
     t.say("Without a claim there, nothing comes of it.")
     t.given(whole)
     t.open(key[3], "0 3")
@@ -3032,10 +3217,13 @@ def counts_at_close(t, image):
     t.reads((0, 20, None), (1, 20, None), (3, 20, None), *last_texts)
     t.read(0, 21, "12")
     t.read(3, 21, "12")
+    t.release(0, 4, "0 6")
+    t.write(3, 2, counted_text(3, 2), "0 claimed 6 1")
     t.close("0")
     t.holds(7, 7, 7, 7)
     t.open(key[3], "0 3")
     t.holds(5, 1, 7, 3)
+    t.reads((3, 2, counted_text(3, 2)), (0, 14, None), *last_texts[1:])
 
 
 def counts_not_allowed(t, image):
@@ -3132,13 +3320,13 @@ def counts_not_allowed(t, image):
         t.write(0, 3, some[:5], f"{alone or 13} 0")
         t.read(0, 3, alone or "9")
         t.write(0, 3, some, f"{alone or 9} 0")
-        t.close(alone or "9")
-        t.write(0, 0, some, f"{alone} 0" if alone else "22 5")
+        t.write(0, 0, some, f"{alone or 9} 0")
         t.given("entry 0 1 -")
+        t.write(0, 0, some, f"{alone} 0" if alone else "22 5")
         t.given("owners 1 5 0 2 1 4 1")
         t.given("start 0")
         t.write(0, 0, some, f"{alone} 0" if alone else "21 3")
-        t.close(alone or "21")
+        t.close(alone or "0")
     for line in ("device counts.img 60415", "maps 104 9", "owners 1 5", "permutation 0 0 0", "position 4609"):
         t.given(line)
     for session in (
@@ -3200,16 +3388,18 @@ def counts_of_two_maps(t):
                 t.read(0, N, "12")
                 if N - 1 != mapped:
                     t.reads((0, N - 1, None))
-    t.say("At a close: entry 251 or 252 with counts around it.")
+    t.say("Claims and releases, with an entry that is no mark in the first map block or in the second, and counts around it: 9 in the",
+          "same map block alone, else 21, for which one byte of 1,040 is missing, and 25.")
     t.open(image.key[0], "0 0")
+    t.given("tape tapes.bin 0 1039")
     for sigma in (251, 252, 256):
         t.given(f"entry 0 {sigma} 9")
         for N in (1, 251, 252, 253, 256, 257):
             t.given(f"count 0 {N}")
-            if sigma >= N:
-                t.close("9")
-        t.given("position 993")
-        t.close("21")
+            for logical in sorted({0, min(N - 1, 250), N - 1} - {sigma}):
+                judged = sigma >= N and (sigma < 252) == (logical < 252)
+                t.write(0, logical, SOME_COUNTED, "9 0" if judged else "21 1")
+                t.release(0, logical, "9" if judged else "25")
         t.given(f"entry 0 {sigma} -")
     t.say("A volume of 253 blocks: claims in the last entry of each map block, a close, and the next opening.")
     for n in (0, 1):
@@ -3466,8 +3656,8 @@ def releases():
     """Slices that are given back."""
     t = Transcript(
         "releases.txt",
-        "Releases: the entry, the owner and the start place afterwards, what reads, finds and claims then give, and that the",
-        "device stays.",
+        "Releases: the entry, the owner and the start place afterwards, what reads, finds and claims then give, and that of the",
+        "device one map block changes alone.",
     )
     t.lend("small.img", SMALL, [2, 0, 3, 1], tape("releases", 5120), 0)
     image = small_image()
@@ -3489,11 +3679,12 @@ def releases_of_each_volume(t, image):
         for volume in range(k + 1):
             logical, psi = SMALL_MAPPED[volume]
             t.say(f"Key {k}: the slice of volume {volume} is given back. Its blocks are zeros, the others stay.")
+            t.given(SMALL_WHOLE)
+            t.given("permutation 2 0 3 1")
             t.open(image.key[k], f"0 {k}")
             t.starts(k + 1)
             t.release(volume, logical, f"0 {psi}")
             t.starts(volume)
-            t.image("small.img")
             for address in range(4 * logical, 4 * logical + 4):
                 t.reads((volume, address, None))
                 t.find(volume, address, "0")
@@ -3506,19 +3697,24 @@ def releases_of_each_volume(t, image):
                 t.release(volume, unmapped, "25")
             t.release(k + 1, 0, "11")
             t.starts(volume)
+            t.say("The session is dropped.")
+            t.drop([1, 3, 0, 2])
+            t.starts(0)
     t.say("All three, in different orders: the start place is the lowest place of them.")
+    t.given("permutation 2 0 3 1")
     for order, places in (((2, 1, 0), (2, 1, 0)), ((1, 2, 0), (1, 1, 0)), ((0, 1, 2), (0, 0, 0))):
+        t.given(SMALL_WHOLE)
         t.open(image.key[2], "0 2")
         for volume, place in zip(order, places):
             t.release(volume, SMALL_MAPPED[volume][0], f"0 {SMALL_MAPPED[volume][1]}")
             t.starts(place)
         t.reads(*((volume, address, None) for volume in range(3) for address in (0, 3, 4, 7, 12, 13, 15)))
-        t.image("small.img")
 
 
 def releases_and_start_places(t, image):
     """Every start place with every place of the slice."""
     t.say("The start place becomes the lower of itself and the slice's place: each place, with each start place handed in.")
+    t.given(SMALL_WHOLE)
     t.open(image.key[2], "0 2")
     for permutation, after in (
         ("2 0 3 1", (0, 0, 0, 0, 0)), ("0 2 1 3", (0, 1, 1, 1, 1)), ("3 1 2 0", (0, 1, 2, 2, 2)), ("1 0 3 2", (0, 1, 2, 3, 3)),
@@ -3538,16 +3734,24 @@ def releases_and_start_places(t, image):
         t.release(0, 0, "20")
         t.starts(start)
 
-    t.say("No tape is taken: with none, and with a position past the end.")
+    t.say("16 bytes of the tape are taken. With fewer left, or a position past the end, it is 21, which 25 comes before.")
+    t.given(SMALL_WHOLE)
     t.given("permutation 2 0 3 1")
     tape_words = tape("releases", 5120)
-    t.given("tape tapes.bin 0 0")
-    for position in (0, 1, 2**64 - 1):
-        t.open(image.key[2], "0 2")
+    t.open(image.key[2], "0 2")
+    for length, position in ((0, 0), (1, 0), (15, 0), (16, 1), (5120, 5105), (5120, 5120), (0, 1), (15, 16), (5120, 5121),
+                             (5120, 2**32), (5120, 2**63), (5120, 2**64 - 16), (5120, 2**64 - 1)):
+        t.given(f"tape {shorter(tape_words, length)}")
         t.given(f"position {position}")
-        t.release(1, 3, "0 0")
-        t.starts(1)
-        t.release(1, 3, "25")
+        t.release(1, 3, "21")
+        t.release(1, 0, "25")
+        t.starts(3)
+    for (volume, logical, psi), length, position in (((1, 3, 0), 16, 0), ((2, 0, 3), 5120, 5104), ((0, 1, 2), 17, 1)):
+        t.given(f"tape {shorter(tape_words, length)}")
+        t.given(f"position {position}")
+        t.release(volume, logical, f"0 {psi}")
+        assert t.lent.position == length
+    t.starts(0)
     t.given(f"tape {tape_words}")
     t.given("position 0")
 
@@ -3557,6 +3761,7 @@ def releases_and_claims(t, image):
     key = image.key
     fresh = [small_text(volume, 99, "fifth") for volume in range(3)]
     t.say("A full device: 22, a release, and the next claim takes the slice. The start place is 4, then that slice's place.")
+    t.given(SMALL_WHOLE)
     t.open(key[2], "0 2")
     t.write(0, 0, fresh[0], "0 claimed 1 1")
     t.write(2, 15, fresh[2], "22 0")
@@ -3584,10 +3789,14 @@ def releases_and_claims(t, image):
     t.reads((1, 12, fresh[1]), (1, 13, None), (1, 14, None), (1, 15, None), (0, 4, fresh[0]), (0, 7, None), (2, 0, None))
     t.write(2, 0, fresh[2], "22 1")
     t.starts(4)
+    t.say("The session is dropped.")
+    t.drop([3, 2, 1, 0])
+    t.starts(4)
 
     t.say("Claims of the slice by the same volume, at the same logical slice and at another, and by other volumes: zeros but for",
           "the block asked for.")
     t.given(SMALL_WHOLE)
+    t.given("permutation 2 0 3 1")
     t.given("position 0")
     t.open(key[2], "0 2")
     logical, owner = 1, 0
@@ -3632,10 +3841,10 @@ def releases_and_permutations(t, image):
     """Another permutation than at the opening."""
     fresh = [small_text(volume, 99, "fifth") for volume in range(3)]
     t.say("Another permutation than the opening's: the slice's place is the one in it.")
-    t.given(SMALL_WHOLE)
     t.given("position 0")
     for permutation, places in (("1 3 0 2", (3, 2, 1)), ("3 1 2 0", (2, 3, 0)), ("0 1 3 2", (3, 0, 2)), ("1 2 3 0", (1, 3, 2))):
         for volume, place in enumerate(places):
+            t.given(SMALL_WHOLE)
             t.given("permutation 2 0 3 1")
             t.open(image.key[2], "0 2")
             t.starts(3)
@@ -3644,6 +3853,7 @@ def releases_and_permutations(t, image):
             t.starts(place)
     t.say("Claims then look from there on in theirs: with the first permutation slices 2 and 0, at earlier places, are free and",
           "not found, until a release names a lower place.")
+    t.given(SMALL_WHOLE)
     t.given("permutation 2 0 3 1")
     t.open(image.key[2], "0 2")
     t.given("permutation 1 3 0 2")
@@ -3712,17 +3922,27 @@ def releases_of_other_tables(t, image):
     t.find(1, 0, "0")
     t.reads((0, 0, None), (0, 15, None), (1, 13, small_text(1, 13)))
 
-    t.say("Bad entries elsewhere, in the same row and in others, are no matter, nor is what rows above k hold.")
+    t.say("Bad entries of the same volume are 9, whatever is asked for, also before 25. Those of other volumes are no matter, nor is",
+          "what rows above k hold.")
     for bad in (4, 5, MARK - 1):
+        t.given(SMALL_WHOLE)
         t.open(image.key[1], "0 1")
-        for line in (f"row 0 {bad} 2 {bad} {bad}", f"row 1 {bad} {bad} {bad} 0", f"row 2 {bad} 2 0 3", f"row 14 {bad} {bad} 2 0"):
+        for line in (f"row 1 {bad} {bad} {bad} 0", f"row 2 {bad} 2 0 3", f"row 14 {bad} {bad} 2 0"):
             t.given(line)
+        for logical in range(4):
+            t.release(1, logical, "9")
+        t.release(0, 0, "25")
         t.release(0, 1, "0 2")
         t.starts(0)
+        t.given("row 1 - - - 0")
+        for place in range(4):
+            t.given(f"row 0 {words('-' * 4)}")
+            t.given(f"entry 0 {place} {bad}")
+            for logical in range(4):
+                t.release(0, logical, "9")
+            t.given(f"entry 0 {3 - place} 2")
+            t.release(0, 3 - place, "9")
         t.release(1, 3, "0 0")
-        for volume, logical in ((0, 0), (0, 2), (0, 3), (1, 0), (1, 1), (1, 2)):
-            t.release(volume, logical, "9")
-        t.release(0, 1, "25")
         for logical in range(4):
             t.release(2, logical, "11")
         t.release(14, 2, "11")
@@ -3763,24 +3983,24 @@ def releases_and_closes(t, image):
     """What the next opening finds."""
     key = image.key
     fresh = [small_text(volume, 99, "fifth") for volume in range(3)]
-    t.say("A release without a close is lost: the next opening finds entry and owner as before, and the old texts.")
+    t.say("A release without a close is on the device: the next opening finds the slice free, and zeros.")
     t.given(SMALL_WHOLE)
     t.given("position 0")
     t.open(key[2], "0 2")
     t.release(0, 1, "0 2")
     t.reads((0, 4, None))
     t.open(key[2], "0 2")
-    t.starts(3)
-    t.reads(*small_blocks(0, 1, 2))
-    t.say("With a claim of the slice between, the old entry leads to what the claim stored under another key.")
-    t.release(0, 1, "0 2")
+    t.starts(0)
+    t.reads(*((0, address, None) for address in range(16)), *small_blocks(1, 2))
+    t.release(0, 1, "25")
+    t.say("So is a claim of the slice by another volume.")
     t.write(2, 6, fresh[2], "0 claimed 2 1")
     t.open(key[2], "0 2")
-    t.read(0, 6, "0")
-    t.find(0, 6, "1024 45056")
-    t.reads((2, 6, None))
+    t.starts(3)
+    t.reads((0, 6, None), (2, 6, fresh[2]), (2, 5, None), *small_blocks(1))
+    t.find(0, 6, "0")
 
-    t.say("Releases and a close: the maps on the device are without the slices, for every key, and the slices are free.")
+    t.say("Releases, and a close, which adds nothing: the maps are without the slices, for every key, and the slices are free.")
     t.given(SMALL_WHOLE)
     t.given("position 0")
     t.open(key[2], "0 2")
@@ -3858,6 +4078,7 @@ def releases_below_the_counts(t, image):
           "Each mapped one: the start place is 2, and stays so where the slice's place is higher.")
     t.lend("counts.img", COUNTED, COUNTED_PERMUTATION, tape("releases", 5120), 0)
     for volume, logical, psi, place in mapped:
+        t.given(whole)
         t.open(key[3], "0 3")
         t.starts(2)
         t.release(volume, logical, f"0 {psi}")
@@ -3866,19 +4087,25 @@ def releases_below_the_counts(t, image):
         t.reads(*((volume, 3 * logical + j, None) for j in range(3)))
         t.find(volume, 3 * logical, "0")
         t.reads(*((v, a, counted_text(v, a)) for v, a in COUNTED_BLOCKS if (v, a // 3) != (volume, logical)))
-        t.image("counts.img")
     t.say("All of them, one after the other.")
+    t.given(whole)
     t.open(key[3], "0 3")
     for (volume, logical, psi, _), place in zip(reversed(mapped), (2, 2, 0, 0, 0)):
         t.release(volume, logical, f"0 {psi}")
         t.starts(place)
     t.reads(*((volume, last, None) for volume, last in enumerate(LAST)))
+    t.say("The session is dropped.")
+    t.drop(range(7))
+    t.starts(0)
 
     t.say("12: at the volume's own count and above, whatever stands there: a slice, a number that is none, the mark. 11 comes",
           "before it, where the count is 0.")
+    t.given(whole)
+    t.given(f"permutation {words(COUNTED_PERMUTATION)}")
     t.open(key[3], "0 3")
-    for line in ("entry 0 5 2", "entry 0 6 7", "entry 1 1 4", "entry 1 6 4294967294", "entry 3 3 4", "entry 3 6 8"):
-        t.given(line)
+    past = ((0, 5, 2), (0, 6, 7), (1, 1, 4), (1, 6, MARK - 1), (3, 3, 4), (3, 6, 8))
+    for volume, logical, entry in past:
+        t.given(f"entry {volume} {logical} {entry}")
     for volume, N in enumerate(COUNTS):
         for logical in (N, N + 1, 3 * N, 6, 7, 8, 14, 21, 2**32, 2**32 + N - 1, 2**63, 2**64 - 1):
             if logical >= N:
@@ -3886,7 +4113,13 @@ def releases_below_the_counts(t, image):
     for volume in (4, 5, 14):
         for logical in (0, 2, 7):
             t.release(volume, logical, "11")
-    t.say("25 and served below it.")
+    t.say("Below it 9, where such an entry stands in the row; without, 25 and served.")
+    for volume in (0, 1, 3):
+        for logical in range(COUNTS[volume]):
+            t.release(volume, logical, "9")
+    t.release(2, 5, "25")
+    for volume, logical, entry in past:
+        t.given(f"entry {volume} {logical} -")
     for volume, logical in ((0, 0), (0, 2), (0, 3), (2, 0), (2, 5), (3, 0), (3, 1)):
         t.release(volume, logical, "25")
     t.starts(2)
@@ -3895,19 +4128,21 @@ def releases_below_the_counts(t, image):
     t.starts(0)
 
     t.say("Counts that the caller lowers or raises: a release goes by what the session holds.")
+    t.given(whole)
     t.open(key[3], "0 3")
     for N in (1, 2, 4):
         t.given(f"count 0 {N}")
         t.release(0, 4, "12")
     t.given("count 0 2")
-    t.release(0, 1, "0 0")
+    t.release(0, 1, "9")
     t.release(0, 2, "12")
-    t.close("9")
     t.given("count 0 5")
+    t.release(0, 1, "0 0")
     t.release(0, 4, "0 6")
     t.starts(1)
     t.given("entry 1 6 4")
     t.release(1, 6, "12")
+    t.release(1, 0, "9")
     t.given("count 1 7")
     t.release(1, 6, "0 4")
     t.release(1, 5, "25")
@@ -3925,6 +4160,7 @@ def releases_below_the_counts(t, image):
     t.write(3, 3, some, "0 claimed 0 1")
     t.write(2, 0, some, "0 claimed 4 2")
     t.write(2, 3, some, "22 1")
+    t.given("position 0")
     t.release(3, 2, "0 1")
     t.starts(6)
     t.write(2, 3, some, "0 claimed 1 1")
@@ -3943,6 +4179,7 @@ def releases_below_the_counts(t, image):
             t.given(f"count {row} {COUNTS[row]}")
         t.release(k, COUNTS[k] - 1, f"0 {(6, 3, 5, 1)[k]}")
     t.say("Above k any count is allowed, and stays.")
+    t.given(whole)
     t.open(key[1], "0 1")
     for row in range(2, VOLUMES):
         t.given(f"count {row} {(2**64 - 1, 8, 0)[row % 3]}")
@@ -3959,8 +4196,8 @@ def releases_below_the_counts(t, image):
     for line, volume, logical, answer in (
         ("position 0", 9, 9, "20"), (served, 9, 9, "2"), (whole, 9, 9, "4"), ("maps 105 9", 9, 9, "4"),
         ("owners 1 5 0 2 0 4 1", 9, 9, "5"), (f"permutation {words(COUNTED_PERMUTATION)}", 9, 9, "11"),
-        ("position 1", 0, 9, "12"), ("position 2", 0, 5, "12"), ("position 3", 0, 4, "9"), ("entry 0 4 -", 0, 4, "25"),
-        ("entry 0 4 6", 0, 4, "0 6"),
+        ("position 5121", 0, 9, "12"), ("position 5121", 0, 5, "12"), ("position 5121", 0, 4, "9"), ("entry 0 4 -", 0, 4, "9"),
+        ("maps 105 -", 0, 4, "25"), ("entry 0 4 6", 0, 4, "21"), ("position 5105", 0, 4, "21"), ("position 5104", 0, 4, "0 6"),
     ):
         t.given(line)
         t.release(volume, logical, answer)
@@ -3986,7 +4223,6 @@ def releases_of_two_maps(t):
     for volume, logical, answer in ((0, 256, "25"), (0, 257, "12"), (0, 258, "12"), (1, 0, "25"), (1, 252, "25"), (1, 257, "12"),
                                     (0, 2**32 + 250, "12"), (2, 253, "11")):
         t.release(volume, logical, answer)
-    t.image("two-maps.img")
     t.say("5: one place short, one too long, and a fault at the last place alone, with the asked slice there or elsewhere.")
     for permutation in (words(range(256)), words(range(1, 257)), f"{up} 0", f"{up} 257", f"{words(range(256))} 255",
                         f"{words(range(256))} 0", f"{words(range(256))} 257", f"{words(range(256))} 4294967295",
@@ -4017,7 +4253,7 @@ def releases_of_two_maps(t):
     t.write(1, 252, some, "0 claimed 253 2")
     t.starts(254)
     t.reads((1, 251, some), (1, 252, some), (0, 250, None), (1, 249, None))
-    t.say("The close writes both map blocks of both volumes, and the next opening finds what was given back free.")
+    t.say("The next opening finds what was given back free.")
     t.close("0")
     t.open(image.key[1], "0 1")
     t.starts(0)
@@ -4050,7 +4286,6 @@ def releases_of_other_sizes(t):
     t.reads(*((14, address, text(f"fifteen, block {address} of volume 14", g.B)) for address in (0, 1)))
     t.release(14, 0, "0 3")
     t.starts(0)
-    t.image("fifteen.img")
     t.write(8, 5, some, "0 claimed 3 1")
     t.reads((8, 4, None), (8, 5, some), (14, 0, None), (14, 1, None))
     t.close("0")
@@ -4062,7 +4297,7 @@ def releases_of_other_sizes(t):
     g = Geometry(1024, 64, 1)
     image = Image("widest.img", g)
     claimed = text("widest, block 63 of volume 0", g.B)
-    t.lend("widest.img", g, [0], tape("widest", 1056, at_0=FF16, at_1024=FF16), 16)
+    t.lend("widest.img", g, [0], tape("widest", 1056, at_0=FF16, at_1024=FF16), 0)
     t.open(image.key[1], "0 1")
     t.starts(1)
     t.write(0, 63, claimed, "22 0")
@@ -4072,7 +4307,6 @@ def releases_of_other_sizes(t):
     t.starts(0)
     t.reads(*((1, address, None) for address in (0, 1, 31, 62, 63)))
     t.find(1, 63, "0")
-    t.image("widest.img")
     t.write(0, 63, claimed, "0 claimed 0 1")
     t.starts(1)
     t.reads((0, 0, None), (0, 62, None), (0, 63, claimed), (1, 0, None))
@@ -4081,9 +4315,573 @@ def releases_of_other_sizes(t):
         t.given(f"permutation{permutation}")
         t.release(0, 0, "5")
     t.given("permutation 0")
+    t.release(0, 0, "21")
+    t.given("position 1040")
     t.release(0, 0, "0 0")
     t.starts(0)
     t.reads((0, 63, None))
+
+
+def map_blocks():
+    """The map block that a claim and a release store."""
+    t = Transcript(
+        "map-blocks.txt",
+        "The map block that a claim and a release store: the tape bytes that they need, which block it is and what it holds, and",
+        "the entries in it that they judge. Rewrites and closes store none.",
+    )
+    map_blocks_and_tapes(t)
+    map_blocks_of_entries(t)
+    map_blocks_with_bad_entries(t)
+    map_blocks_judged_in_order(t)
+    map_blocks_past_the_last(t)
+    map_blocks_that_stay(t, small_image())
+    map_blocks_of_4096(t)
+    t.finish()
+
+
+def map_blocks_and_tapes(t):
+    """Tapes with too few bytes, and with just enough."""
+    for name, image, k, permutation, claimed, rewritten, released, places in (
+        ("small.img", small_image(), 2, [2, 0, 3, 1], (0, 0, 1), (0, 4, 2), (1, 3, 0), (36864, 2048, 41984, 43008, 4096)),
+        ("fifteen.img", Image("fifteen.img", Geometry(4096, 2, 4)), 14, [3, 1, 0, 2], (3, 1, 2), (14, 0, 3), (9, 2, 1),
+         (151552, 32768, 163840, 167936, 81920)),
+    ):
+        g = image.g
+        B, need = {1024: (1024, 1040), 4096: (4096, 4112)}[g.B]
+        some = text(f"map blocks, {name}", B)
+        t.say(f"Blocks of {B} bytes: a claim needs {need}, a rewrite and a release 16. With one less they are 21, a claim also with as",
+              "many as its slice takes, and all with a position past the end. The device stays, and all else.")
+        t.lend(name, g, permutation)
+        t.open(image.key[k], f"0 {k}")
+        for length, position in ((need - 1, 0), (need, 1), (B, 0), (16, 0), (15, 0), (0, 0), (8192, 8193 - need), (8192, 8192 - B),
+                                 (8192, 8176), (8192, 8177), (8192, 8192), (8192, 8193), (0, 1), (8192, 2**32), (8192, 2**63),
+                                 (8192, 2**64 - need), (8192, 2**64 - B), (8192, 2**64 - 16), (8192, 2**64 - 1)):
+            t.given(f"tape {SHUFFLED_NOISE} {length}")
+            t.given(f"position {position}")
+            t.write(*claimed[:2], some, "21 1")
+            if position > length or length - position < 16:
+                t.write(*rewritten[:2], some, "21 0")
+                t.release(*released[:2], "21")
+            t.starts(3)
+        t.image(name)
+        t.say("Each with a tape that ends where the call does.")
+        for before in (0, 3001):
+            t.given(f"device {name} {g.length}")
+            t.open(image.key[k], f"0 {k}")
+            for n, used in enumerate((need, 16, 16)):
+                t.given(f"tape {SHUFFLED_NOISE} {before + used}")
+                t.given(f"position {before}")
+                if n == 0:
+                    t.write(*claimed[:2], some, f"0 claimed {claimed[2]} 1")
+                    t.stores((places[0], B * (1 + g.S), before, B), (places[1], B, before + B, 16))
+                elif n == 1:
+                    t.write(*rewritten[:2], some, f"0 rewritten {rewritten[2]} 0")
+                    t.stores((places[2], 16, before, 16), (places[3], B, 0, 0))
+                else:
+                    t.release(*released[:2], f"0 {released[2]}")
+                    t.stores((places[4], B, before, 16))
+                assert t.lent.position == before + used
+        t.drop(permutation[::-1])
+
+
+def map_blocks_of_entries(t):
+    """Which block it is: entries 0 to 251 stand in the first map block, 252 to 256 in the second."""
+    g = Geometry(1024, 1, 257)
+    image = Image("two-maps.img", g)
+    some = [text(f"map blocks, two maps, text {n}", g.B) for n in range(9)]
+    blocks = {(0, 0): 2048, (0, 1): 3072, (1, 0): 5120, (1, 1): 6144}
+    free = [7, 130, 254]
+    rest = [psi for psi in range(257) if psi not in free]
+    t.say("Two map blocks: volume 0 has them from bytes 2,048 and 3,072 on, volume 1 from 5,120 and 6,144 on. Each call stores the",
+          "one of its entry alone, with tape bytes that no other has.")
+    t.lend("two-maps.img", g, free + rest, f"{SHUFFLED_NOISE} 16384", 11)
+    t.open(image.key[1], "0 1")
+    rows = [t.lent.maps[:257], t.lent.maps[257:514]]
+
+    def stored(volume, logical, entry, claimed):
+        """Places by hand, and the entries of the block: those of the opening with what was set since."""
+        position = t.lent.position - 16
+        rows[volume][logical] = entry
+        at = blocks[volume, 0 if logical < 252 else 1]
+        slices = [(1024 * (46 + 2 * entry), 2048, position - 1024, 1024)] if claimed else []
+        t.stores(*slices, (at, 1024, position, 16))
+        t.map_block_is(at, volume, rows[volume][:252] if logical < 252 else rows[volume][252:])
+
+    for n, (volume, logical) in enumerate(((1, 251), (1, 252), (0, 251))):
+        t.write(volume, logical, some[n], f"0 claimed {free[n]} 1")
+        stored(volume, logical, free[n], True)
+    for volume, logical, psi in ((0, 252, 256), (1, 253, 255), (0, 250, 251), (1, 1, 1), (0, 0, 0), (0, 256, 252), (1, 249, 253)):
+        t.release(volume, logical, f"0 {psi}")
+        stored(volume, logical, MARK, False)
+    # The start place is that of slice 0, the first of the rest.
+    t.starts(3)
+    for n, (volume, logical, psi, probes) in enumerate(((0, 253, 0, 1), (1, 256, 1, 1), (0, 252, 251, 248), (1, 0, 252, 1))):
+        t.write(volume, logical, some[n + 3], f"0 claimed {psi} {probes}")
+        stored(volume, logical, psi, True)
+    t.say("A rewrite stores none.")
+    t.write(1, 251, some[7], "0 rewritten 7 0")
+    t.stores((1024 * 60, 16, t.lent.position - 16, 16), (1024 * 61, 1024, 0, 0))
+    t.say("What the next opening finds.")
+    t.open(image.key[1], "0 1")
+    assert t.lent.maps[:514] == rows[0] + rows[1]
+    t.reads((1, 251, some[7]), (1, 252, some[1]), (0, 251, some[2]), (0, 253, some[3]), (1, 256, some[4]), (0, 252, some[5]),
+            (1, 0, some[6]), (1, 253, None), (0, 250, None), (1, 1, None), (0, 0, None), (0, 256, None), (1, 249, None))
+    t.open(image.key[0], "0 0")
+    t.reads((0, 251, some[2]), (0, 253, some[3]), (0, 252, some[5]), (0, 250, None))
+
+    t.say("All 15 volumes of blocks of 4,096 bytes: the map block of volume v stands from byte 8,192 x (v + 1) on.")
+    g = Geometry(4096, 2, 4)
+    image = Image("fifteen.img", g)
+    t.lend("fifteen.img", g, [2, 0, 1, 3], f"{SHUFFLED_NOISE} 65536")
+    t.open(image.key[14], "0 14")
+    t.starts(0)
+    for volume in range(VOLUMES):
+        held = {0: [MARK, MARK, MARK, 0], 9: [MARK, MARK, 1], 14: [3]}.get(volume, [])
+        t.write(volume, 3, text(f"map blocks, fifteen, volume {volume}", 4096), "0 claimed 2 1")
+        t.stores((4096 * 37, 3 * 4096, 4128 * volume, 4096), (8192 * (volume + 1), 4096, 4128 * volume + 4096, 16))
+        t.map_block_is(8192 * (volume + 1), volume, held[:1] + [MARK] * (1 - len(held)) + [2] + held[2:])
+        t.release(volume, 1, "0 2")
+        t.stores((8192 * (volume + 1), 4096, 4128 * volume + 4112, 16))
+        t.map_block_is(8192 * (volume + 1), volume, held)
+    t.open(image.key[14], "0 14")
+    t.reads(*((14, address, text(f"fifteen, block {address} of volume 14", g.B)) for address in (0, 1)), (14, 3, None))
+
+
+def map_blocks_with_bad_entries(t):
+    """Bad entries in the map block of the asked entry, in the other one, and in other rows."""
+    g = Geometry(1024, 1, 257)
+    image = Image("two-maps.img", g)
+    some = text("map blocks, bad entries", g.B)
+    t.say("Two map blocks, and a bad entry in one of them. Volume 0 maps its even logical slices, volume 1 odd ones. Claims and",
+          "releases in the same block of the same volume are 9; all others are 21, as rewrites are: 15 bytes of the tape are left.")
+    t.lend("two-maps.img", g, [7, *range(7), *range(8, 257)], f"{SHUFFLED_NOISE} 15")
+    t.open(image.key[1], "0 1")
+    asked = {0: ((0, 2, 248, 250), (1, 249, 251), (252, 254, 256), (253, 255)),
+             1: ((1, 3, 247, 249), (0, 250, 251), (253,), (252, 254, 255, 256))}
+    for volume, sigma, bad in (
+        (0, 0, 257), (0, 1, MARK - 1), (0, 251, 258), (0, 250, 2**31), (0, 252, 257), (0, 253, 65536 + 7), (0, 256, MARK - 1),
+        (1, 0, 257), (1, 246, MARK - 1), (1, 247, 512), (1, 251, 257), (1, 252, 4097), (1, 256, 2**31 + 1),
+        (2, 0, 257), (2, 100, MARK - 1), (2, 256, 257), (14, 256, 257),
+    ):
+        before = t.lent.maps[volume * 257 + sigma]
+        t.given(f"entry {volume} {sigma} {bad}")
+        for i, (mapped, unmapped, mapped_second, unmapped_second) in asked.items():
+            for logical in mapped + unmapped + mapped_second + unmapped_second:
+                judged = i == volume and (logical < 252) == (sigma < 252)
+                itself = (i, logical) == (volume, sigma)
+                is_mapped = logical in mapped + mapped_second
+                if is_mapped:
+                    t.write(i, logical, some, "9 0" if itself else "21 0")
+                else:
+                    t.write(i, logical, some, "9 0" if judged else "21 1")
+                t.release(i, logical, "9" if judged else "21" if is_mapped else "25")
+        t.given(f"entry {volume} {sigma} {entry_word(before)}")
+    t.image("two-maps.img")
+    t.say("In the last row of the table: volume 14 of a session with all keys. Its second map block has entries 252 to 256 alone.")
+    t.given(f"session 1024 1 257 14 1 0 257*15 {words(vek.hex() for vek in image.vek)}")
+    for sigma, bad in ((0, 257), (251, MARK - 1), (252, 257), (256, 257)):
+        t.given(f"entry 14 {sigma} {bad}")
+        for logical in (1, 250, 253, 255):
+            judged = (logical < 252) == (sigma < 252)
+            t.write(14, logical, some, "9 0" if judged else "21 1")
+            t.release(14, logical, "9" if judged else "25")
+        t.given(f"entry 14 {sigma} -")
+    t.given(f"tape {SHUFFLED_NOISE} 1040")
+    t.write(14, 256, some, "0 claimed 7 1")
+    t.stores((1024 * 60, 2048, 0, 1024), (1024 * 45, 1024, 1024, 16))
+    t.map_block_is(1024 * 45, 14, [MARK] * 4 + [7])
+
+    t.say("Volumes of their own length, 5, 1, 7 and 3 of 7: an entry from the count on is bad also where it is a slice. Claims and",
+          "releases of that volume are 9, and of no other.")
+    image = counted_image()
+    t.lend("counts.img", COUNTED, COUNTED_PERMUTATION, f"{SHUFFLED_NOISE} 15")
+    t.open(image.key[3], "0 3")
+    for volume, sigma, entry in ((0, 5, 2), (0, 6, 6), (0, 6, 7), (1, 1, 4), (1, 6, 3), (2, 6, 7), (2, 0, MARK - 1), (3, 3, 4),
+                                 (3, 6, 1), (4, 0, 7), (14, 6, 0)):
+        before = t.lent.maps[volume * 7 + sigma]
+        t.given(f"entry {volume} {sigma} {entry}")
+        for i, unmapped, mapped in ((0, 0, 4), (2, 1, 6), (3, 1, 2)):
+            t.write(i, 3 * unmapped, some, "9 0" if i == volume else "21 1")
+            t.release(i, unmapped, "9" if i == volume else "25")
+            t.release(i, mapped, "9" if i == volume else "21")
+            t.write(i, 3 * mapped, some, "9 0" if (i, mapped, entry) == (volume, sigma, 7) else "21 0")
+        t.release(1, 0, "9" if volume == 1 else "21")
+        t.write(1, 0, some, "21 0")
+        t.given(f"entry {volume} {sigma} {entry_word(before)}")
+    t.image("counts.img")
+
+
+def map_blocks_judged_in_order(t):
+    """Where 9 stands among the other refusals."""
+    image = counted_image()
+    key, some = image.key, SOME_COUNTED
+    served = f"session 1024 3 7 3 1 2 5,1,7,3 {words(vek.hex() for vek in image.vek[:4])}"
+    bad = ("entry 0 5 2", "entry 2 6 7")
+    t.say("A claim, with a bad entry in its map block: 9 comes after 20, 2, 4, 5 for the length, 11, 12 and 13, and before 5, 22 and",
+          "21. All stand at first; then one less each time. Without the bad entry the next one comes.")
+    t.given("tape 00")
+    for judged in (True, False):
+        for line in (COUNTED_WHOLE, "maps 105 -", "owners 1 1 1 1 1 1 1", "permutation 7 7 7 7 7 7", "device counts.img 60415",
+                     "maps 104 -", "position 2", served.replace(" 3 1 2 ", " 3 1 8 ")):
+            t.given(line)
+        for line, volume, address, length, answer in (
+            ("position 3", 4, 15, 5, "20 0"), (served, 4, 15, 5, "2 0"), (COUNTED_WHOLE, 4, 15, 5, "4 0"),
+            ("maps 105 -", 4, 15, 5, "5 0"), ("permutation 7 7 7 7 7 7 7", 4, 15, 5, "11 0"), (bad[0], 0, 15, 5, "12 0"),
+            (bad[1], 2, 21, 5, "12 0"), ("position 2", 0, 0, 5, "13 0"), ("position 2", 2, 0, 1023, "13 0"),
+        ):
+            t.given(line)
+            t.write(volume, address, some[:length], answer)
+        if not judged:
+            t.given("maps 105 -")
+        for line, answer in (("start 0", "5 1"), (f"permutation {words(COUNTED_PERMUTATION)}", "22 7"), ("start 7", "22 0"),
+                             ("owners 1 1 0 1 1 1 1", "22 0"), ("start 1", "21 2"), ("position 0", "21 2")):
+            t.given(line)
+            for volume in (0, 2):
+                place = t.lent.session.start
+                t.write(volume, 0, some, "9 0" if judged else answer)
+                t.given(f"start {place}")
+    t.say("A release: 9 comes after 20, 2, 4, 5, 11 and 12, and before 25 and 21.")
+    for judged in (True, False):
+        for line in ("device counts.img 60415", "maps 104 -", "permutation 7 6 2 0 5 4 1", "position 2",
+                     served.replace(" 3 1 2 ", " 3 0 2 ")):
+            t.given(line)
+        for line, volume, logical, answer in (
+            ("position 3", 4, 5, "20"), (served, 4, 5, "2"), (COUNTED_WHOLE, 4, 5, "4"), ("maps 105 -", 4, 5, "5"),
+            (f"permutation {words(COUNTED_PERMUTATION)}", 4, 5, "11"), (bad[0], 0, 5, "12"), (bad[1], 2, 7, "12"),
+        ):
+            t.given(line)
+            t.release(volume, logical, answer)
+        if not judged:
+            t.given("maps 105 -")
+        for line, answers in (("position 2", "25 25"), ("entry 0 1 0", "21 25"), ("entry 2 1 5", "21 21"), ("position 0", "21 21")):
+            t.given(line)
+            for volume, answer in zip((0, 2), answers.split(" ")):
+                t.release(volume, 1, "9" if judged else answer)
+    t.say("With a tape both are served.")
+    t.given(f"tape {SHUFFLED_NOISE} 1072")
+    t.release(0, 1, "0 0")
+    t.release(2, 1, "0 5")
+    t.given("start 2")
+    t.write(2, 0, some, "0 claimed 2 1")
+
+
+def map_blocks_past_the_last(t):
+    """What the device holds behind the P entries, and what is stored there."""
+    g, image = COUNTED, counted_image()
+    some = SOME_COUNTED
+    t.say("Behind the P entries of a map block any numbers may stand on the device, slices that are mapped too. They are ignored, and",
+          "where the block is stored marks take their place; the blocks of other volumes keep theirs.")
+    t.lend("counts.img", g, COUNTED_PERMUTATION, f"{SHUFFLED_NOISE} 4096")
+    past = ([0, 7, MARK - 1, 6, 2, 3] * 41)[:245]
+    for i in range(4):
+        t.given_bytes(g.map_block(i, 0), image.enciphered_map(i, COUNTED_ROWS[i] + past))
+    t.open(image.key[3], "0 3")
+    t.release(0, 4, "0 6")
+    t.stores((2048, 1024, 0, 16))
+    t.map_block_is(2048, 0, [MARK, 0])
+    t.write(2, 0, some, "0 claimed 6 1")
+    t.stores((1024 * (31 + 4 * 6), 4096, 16, 1024), (6144, 1024, 1040, 16))
+    t.map_block_is(6144, 2, [6] + [MARK] * 5 + [5])
+    t.map_block_is(4096, 1, COUNTED_ROWS[1] + past)
+    t.drop(COUNTED_PERMUTATION[::-1])
+
+    t.say("The second block of two: 247 places behind the last entry, with numbers from P on, or slices.")
+    g = Geometry(1024, 1, 257)
+    image = Image("two-maps.img", g)
+    t.lend("two-maps.img", g, [7, *range(7), *range(8, 257)], f"{SHUFFLED_NOISE} 4096")
+    t.open(image.key[1], "0 1")
+    rows = [t.lent.maps[252:257], t.lent.maps[509:514]]
+    t.map_block_is(3072, 0, rows[0] + list(range(257, 504)))
+    t.map_block_is(6144, 1, rows[1] + list(range(247)))
+    t.release(0, 252, "0 256")
+    t.map_block_is(3072, 0, [MARK] + rows[0][1:])
+    t.write(1, 252, some, "0 claimed 7 1")
+    t.map_block_is(6144, 1, [7] + rows[1][1:])
+
+
+def map_blocks_that_stay(t, image):
+    """Tables that are not the device's: what a rewrite and a close make of them."""
+    some = small_text(0, 4, "seventh")
+    t.say("Entries that the caller set: a rewrite and a close store none of them, nor do calls of other volumes. A call of the same",
+          "volume stores them with its own.")
+    t.lend("small.img", SMALL, [2, 0, 3, 1], f"{SHUFFLED_NOISE} 4096")
+    t.open(image.key[2], "0 2")
+    t.given("entry 1 0 1")
+    t.given("owner 1 2")
+    t.write(1, 13, some, "0 rewritten 0 0")
+    t.stores((31760, 16, 0, 16), (33792, 1024, 0, 0))
+    t.release(2, 0, "0 3")
+    t.stores((6144, 1024, 16, 16))
+    t.close("0")
+    t.stores()
+    t.open(image.key[2], "0 2")
+    t.reads((1, 0, None), (1, 13, some), (2, 0, None))
+    t.given("entry 1 0 1")
+    t.given("owner 1 2")
+    t.given("start 2")
+    t.write(1, 4, some, "0 claimed 3 1")
+    t.stores((48128 - 1024, 5120, 32, 1024), (4096, 1024, 1056, 16))
+    t.map_block_is(4096, 1, [1, 3, MARK, 0])
+    t.close("0")
+    t.open(image.key[2], "0 2")
+    t.find(1, 0, "1024 37888")
+    t.reads((1, 4, some), (1, 5, None))
+
+    t.say("Closes: without a tape, with positions past its end, with any entries and owners in the tables. Device, tape and position",
+          "stay; a second one is 20.")
+    for tape_bytes, position in (("-", 0), ("-", 1), ("00", 2**64 - 1), ("0001020304", 3)):
+        t.given(SMALL_WHOLE)
+        t.given("permutation 3 2 1 0")
+        for k in range(3):
+            t.open(image.key[k], f"0 {k}")
+            t.given(f"tape {tape_bytes}")
+            t.given(f"position {position}")
+            if position:
+                for line in ("row 0 4 4294967294 2 2", "row 1 - 9 - -", "row 14 0 1 2 3", "owners 255 0 9 1"):
+                    t.given(line)
+            t.close("0")
+            t.image("small.img")
+            t.close("20")
+            t.starts((0, 0, 2)[k])
+    t.say("Before it comes 2, then 4; with bad entries, and without a tape.")
+    t.open(image.key[2], "0 2")
+    for line in ("maps 61 4", "owners 2 0 1", "device small.img 52223"):
+        t.given(line)
+    for line, answer in (("position 9", "2"), (SMALL_WHOLE, "4"), ("maps 60 4", "4"), ("maps 59 4", "4"), ("owners 2 0 1 9", "4"),
+                         ("maps 60 4", "0"), ("maps 60 4", "20")):
+        t.given(line)
+        t.close(answer)
+
+
+def map_blocks_of_4096(t):
+    """Map blocks of 1,020 entries: 253 and 1,020 of them in one block, one more in two."""
+    some = [text(f"map blocks, blocks of 4,096, text {n}", 4096) for n in range(4)]
+    for P, asked in ((300, ((251, 0), (252, 0), (299, 0))), (1021, ((1019, 0), (1020, 1), (252, 0)))):
+        g = Geometry(4096, 1, P)
+        image = Image(f"blocks of 4,096, {P}", g)
+        count = g.m
+        t.say(f"Blocks of 4,096 bytes and {P} slices, on zeros with a cell, a header and m {count} map blocks for volumes 0 and 1,",
+              "all entries marks.")
+        t.given(f"geometry {words(g)}")
+        t.given(f"zeros {g.length}")
+        t.given(f"maps {15 * P} -")
+        t.given(f"owners {words([0] * P)}")
+        t.given(f"order {add('orders.bin', two_bytes(*range(P)))} {P}")
+        for i in range(2):
+            t.given_bytes(g.cell(i), image.sealed_cell(i))
+            t.given_bytes(g.header(i), image.sealed_header(i))
+            for n in range(count):
+                t.given_bytes(4096 * (2 + i * (1 + count) + n), image.enciphered_map(i, [MARK] * 1020))
+        t.given(f"tape {SHUFFLED_NOISE} 16384")
+        t.given("position 0")
+        t.open(image.key[1], "0 1")
+        row = [MARK] * P
+        for slice, (logical, n) in enumerate(asked):
+            position = t.lent.position
+            t.write(1, logical, some[slice], f"0 claimed {slice} 1")
+            t.stores((4096 * (1 + 15 * (1 + count) + 2 * slice), 8192, position, 4096),
+                     (4096 * (3 + count + n), 4096, position + 4096, 16))
+            row[logical] = slice
+            t.map_block_is(4096 * (3 + count + n), 1, row[1020 * n : 1020 * n + 1020])
+        for slice, (logical, n) in list(enumerate(asked))[:2]:
+            position = t.lent.position
+            t.release(1, logical, f"0 {slice}")
+            t.stores((4096 * (3 + count + n), 4096, position, 16))
+            row[logical] = MARK
+            t.map_block_is(4096 * (3 + count + n), 1, row[1020 * n : 1020 * n + 1020])
+        t.say("Bad entries: the first and the last of each block.")
+        t.given(f"tape {SHUFFLED_NOISE} 15")
+        t.given("position 0")
+        for sigma in sorted({0, 251, min(P, 1020) - 1, P - 1}):
+            t.given(f"entry 0 {sigma} {P}")
+            for logical in sorted({1, 250, 255, min(P, 1020) - 2, P - 2, P - 1} - {sigma}):
+                judged = logical // 1020 == sigma // 1020
+                t.write(0, logical, some[3], "9 0" if judged else "21 1")
+                t.release(0, logical, "9" if judged else "25")
+            t.given(f"entry 0 {sigma} -")
+        t.open(image.key[1], "0 1")
+        t.reads((1, asked[2][0], some[2]), (1, asked[0][0], None), (1, asked[1][0], None))
+
+
+def dropped():
+    """Sessions that end without a close."""
+    t = Transcript(
+        "dropped.txt",
+        "Sessions that are dropped between two calls, without a close. The next opening, with the same key and another permutation,",
+        "finds every block of every volume as it was.",
+    )
+    dropped_after_each_call(t, small_image())
+    dropped_below_other_volumes(t, small_image())
+    dropped_again_and_again(t)
+    dropped_on_other_devices(t)
+    t.finish()
+
+
+def dropped_after_each_call(t, image):
+    """After a call of each kind, served and refused."""
+    key = image.key
+    fresh = [small_text(volume, 99, "eighth") for volume in range(3)]
+    t.say("After the opening, and after calls that write nothing.")
+    t.lend("small.img", SMALL, [2, 0, 3, 1], f"{SHUFFLED_NOISE} 8192")
+    t.open(key[2], "0 2")
+    t.drop([1, 0, 2, 3])
+    t.starts(0)
+    t.find(0, 7, "1024 46080")
+    t.read(0, 16, "12")
+    t.release(0, 0, "25")
+    t.write(3, 0, fresh[0], "11 0")
+    t.drop([0, 2, 3, 1])
+    t.starts(3)
+    t.say("After a rewrite.")
+    t.write(0, 5, fresh[0], "0 rewritten 2 0")
+    t.drop([3, 1, 0, 2])
+    t.starts(1)
+    t.say("After a claim.")
+    t.write(1, 2, fresh[1], "0 claimed 1 1")
+    t.drop([0, 1, 2, 3])
+    t.starts(4)
+    t.say("After a claim that no slice was free for.")
+    t.write(2, 12, fresh[2], "22 0")
+    t.drop([2, 3, 0, 1])
+    t.starts(4)
+    t.say("After a release.")
+    t.release(0, 1, "0 2")
+    t.starts(0)
+    t.drop([1, 3, 2, 0])
+    t.starts(2)
+    t.say("After a claim of what was given back, by another volume.")
+    t.write(2, 12, fresh[2], "0 claimed 2 1")
+    t.drop([2, 1, 0, 3])
+    t.starts(4)
+    t.say("After two releases, and a claim and a release for which the tape is too short.")
+    t.release(1, 3, "0 0")
+    t.starts(2)
+    t.release(2, 0, "0 3")
+    t.starts(2)
+    position = t.lent.position
+    t.given("position 8177")
+    t.write(1, 12, fresh[1], "21 1")
+    t.release(1, 0, "21")
+    t.drop([3, 0, 1, 2])
+    t.starts(0)
+    t.say("After two claims, a rewrite and a release of one of them.")
+    t.given(f"position {position}")
+    t.write(0, 4, fresh[0], "0 claimed 3 1")
+    t.write(0, 8, fresh[1], "0 claimed 0 1")
+    t.write(0, 7, fresh[2], "0 rewritten 3 0")
+    t.release(0, 2, "0 0")
+    t.drop([1, 2, 3, 0])
+    t.starts(3)
+    t.say("A close adds nothing: what it leaves opens to the same.")
+    blocks = dict(t.blocks)
+    t.close("0")
+    t.open(key[2], "0 2")
+    t.reads(*((*place, data) for place, data in blocks.items()))
+
+
+def dropped_below_other_volumes(t, image):
+    """Sessions of lower keys: what stands above is as it was, while no slice of it is taken."""
+    key = image.key
+    fresh = [small_text(volume, 98, "eighth") for volume in range(3)]
+    t.say("Key 1, then key 0: they take slice 1, which is free for all, and give it back. Volumes above k stay.")
+    t.given(SMALL_WHOLE)
+    t.given("position 0")
+    for k in (1, 0):
+        t.given("permutation 1 2 0 3")
+        t.open(key[k], f"0 {k}")
+        t.starts(0)
+        t.write(k, 0, fresh[k], "0 claimed 1 1")
+        t.drop([3, 2, 1, 0])
+        t.open(key[2], "0 2")
+        t.reads((k, 0, fresh[k]), *small_blocks(0, 1, 2))
+        t.open(key[k], f"0 {k}")
+        t.release(k, 0, "0 1")
+        t.drop([0, 1, 2, 3])
+        t.open(key[2], "0 2")
+        t.reads((k, 0, None), *small_blocks(0, 1, 2))
+
+
+def dropped_again_and_again(t):
+    """After every call of a run that noise decides. What is held is kept beside it, and the answers follow from that."""
+    g = COUNTED
+    key, counts = format_keys(0, 1, 2), (5, 1, 7)
+    noise = Noise("dropped again and again")
+    t.say("After every call of a run: writes and releases of a device that formatting made, with 5, 1 and 7 logical slices. Each",
+          "session has one call.")
+    t.given(f"geometry {words(g)}")
+    t.given(f"zeros {g.length}")
+    t.given("maps 105 -")
+    t.given("owners 0 0 0 0 0 0 0")
+    t.given(f"permutation {words(COUNTED_PERMUTATION)}")
+    t.given("tape two-maps.img 100000 100000")
+    t.given("position 0")
+    t.format(key, "0", counts=counts)
+    t.open(key[2], "0 2")
+    held = {}
+    for n in range(40):
+        what, volume, address = noise.take(3)
+        volume %= 3
+        address %= 3 * counts[volume]
+        entry = volume, address // 3
+        free = [psi for psi in t.lent.permutation if psi not in held.values()]
+        data = text(f"dropped, text {n}", g.B)
+        if what % 3 == 0:
+            t.release(*entry, f"0 {held[entry]}" if entry in held else "25")
+            held.pop(entry, None)
+        elif entry in held:
+            t.write(volume, address, data, f"0 rewritten {held[entry]} 0")
+        elif free:
+            t.write(volume, address, data, f"0 claimed {free[0]} 1")
+            held[entry] = free[0]
+        else:
+            t.write(volume, address, data, "22 0")
+        t.drop(noise.shuffled(range(7)))
+
+
+def dropped_on_other_devices(t):
+    """All 15 volumes, blocks of 4,096 bytes, slices of 64 blocks, two map blocks."""
+    g = Geometry(4096, 2, 4)
+    image = Image("fifteen.img", g)
+    t.say("Blocks of 4,096 bytes and all 15 volumes.")
+    t.lend("fifteen.img", g, [3, 1, 0, 2], f"{SHUFFLED_NOISE} 16384")
+    t.open(image.key[14], "0 14")
+    t.write(7, 3, text("dropped, fifteen", g.B), "0 claimed 2 1")
+    t.release(9, 2, "0 1")
+    t.drop([2, 1, 3, 0])
+    t.starts(1)
+
+    g = Geometry(1024, 64, 1)
+    image = Image("widest.img", g)
+    t.say("One slice of 64 blocks.")
+    t.lend("widest.img", g, [0], f"{SHUFFLED_NOISE} 4096")
+    t.open(image.key[1], "0 1")
+    t.release(1, 0, "0 0")
+    t.drop([0])
+    t.starts(0)
+    t.write(0, 63, text("dropped, widest", g.B), "0 claimed 0 1")
+    t.drop([0])
+    t.starts(1)
+
+    g = Geometry(1024, 1, 253)
+    key = format_keys(0, 1)
+    t.say("Two map blocks, P 253, with 253 logical slices and with 2.")
+    t.given(f"geometry {words(g)}")
+    t.given(f"zeros {g.length}")
+    t.given(f"maps {15 * 253} -")
+    t.given(f"owners {words([0] * 253)}")
+    t.given(f"permutation {words(range(253))}")
+    t.given(f"tape two-maps.img 0 {g.length + 2 * 120}")
+    t.given("position 0")
+    t.format(key, "0", counts=[253, 2])
+    t.given("position 5000")
+    t.open(key[1], "0 1")
+    for n, (volume, address) in enumerate(((0, 251), (0, 252), (1, 1), (0, 0))):
+        t.write(volume, address, text(f"dropped, two maps, text {n}", g.B), f"0 claimed {n} 1")
+    t.drop(range(252, -1, -1))
+    t.release(0, 252, "0 1")
+    t.write(1, 0, text("dropped, two maps, text 4", g.B), "0 claimed 252 1")
+    t.drop(range(253))
+    t.starts(1)
 
 
 def ordering(others):
@@ -4389,7 +5187,7 @@ def shuffles_and_sessions(t, image):
     fresh = [small_text(volume, 99, "sixth") for volume in range(3)]
     t.say("The list is no permutation, and an opening refuses it, until the tape has made it one. Slice 1 is free, at place 1.")
     t.lend("small.img", SMALL, [9, 9, 9, 9],
-           tape("shuffles", 8192, at_0=two_bytes(65534, 65535, 3, 65535), at_3128=two_bytes(0, 0, 0)), 0)
+           tape("shuffles", 8192, at_0=two_bytes(65534, 65535, 3, 65535), at_3160=two_bytes(0, 0, 0)), 0)
     t.open(key[2], "5")
     t.shuffle("0", [3, 1, 0, 2], 8)
     t.open(key[2], "0 2")
@@ -4409,9 +5207,9 @@ def shuffles_and_sessions(t, image):
     t.write(0, 8, fresh[0], "0 claimed 3 1")
     t.starts(1)
     t.close("0")
-    assert t.lent.position == 8 + 3 * 1024 + 3 * 16
+    assert t.lent.position == 8 + 3 * 1040 + 2 * 16
     t.say("The next session, with a permutation from the rest of the tape. Under key 1 the slice of volume 2 is free, at place 3.")
-    t.shuffle("0", [1, 2, 3, 0], 3134)
+    t.shuffle("0", [1, 2, 3, 0], 3166)
     t.open(key[1], "0 1")
     t.starts(3)
     t.open(key[2], "0 2")
@@ -4542,6 +5340,7 @@ def make():
     check_layout()
     FILES["texts.bin"] = bytes(4096)  # zeros first: what an unmapped block reads as
     small()
+    check_small_after()
     twomaps()
     fifteen()
     widest()
@@ -4561,6 +5360,8 @@ def make():
     counts()
     format_counts()
     releases()
+    map_blocks()
+    dropped()
     shuffles()
 
 

@@ -48,9 +48,9 @@ use crate::{Geometry, Refusal, Tape};
 /// session.read(&device, &tables, block, &mut buffer)?;
 /// assert_eq!(buffer, [0; 1024]);
 ///
-/// // What is written is there again after a close.
+/// // What is written is there again in the next session.
 /// session.write(&mut device, &mut tables, &permutation, &mut tape, block, &[3; 1024])?;
-/// session.close(&mut device, &mut tables, &mut tape)?;
+/// session.close(&device, &mut tables)?;
 /// let session = Session::open(&device, geometry, &keys[1], &mut tables, &permutation)?;
 /// session.read(&device, &tables, block, &mut buffer)?;
 /// assert_eq!(buffer, [3; 1024]);

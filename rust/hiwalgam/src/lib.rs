@@ -10,13 +10,15 @@
 //!
 //! [`format()`] makes a device whose volumes have the lengths that it is told, [`shuffle`] makes a
 //! permutation for a session, [`Session::open`] opens the device with a key, and the session tells how
-//! long each volume is, reads, writes, releases slices and closes. Reading the image from a stick and
-//! storing it there is the caller's work.
+//! long each volume is, reads, writes, releases slices and closes. What a call has written is on the device
+//! when it returns, the maps included: a session that is dropped between two calls loses nothing, and the
+//! same key opens the device again. Reading the image from a stick and storing it there is the caller's
+//! work.
 //!
 //! ```
 //! use hiwalgam::{shuffle, Block, Change, Geometry, Refusal, Session, Tables, Tape};
 //!
-//! /// Writes a block of volume 0, closes, and reads the block in a second session.
+//! /// Writes a block of volume 0, closes, and reads the block in a second session, which is dropped.
 //! fn keep(device: &mut [u8], key: &[u8], random: &[u8], text: &[u8]) -> Result<(), Refusal> {
 //!     let geometry = Geometry { block_bytes: 1024, slice_blocks: 4, slices: 4 };
 //!     let block = Block { volume: 0, address: 5 };
@@ -28,7 +30,8 @@
 //!     let written = session.write(device, &mut tables, &permutation, &mut tape, block, text)?;
 //!     // Nothing was mapped: the claim takes the slice at the first place.
 //!     assert_eq!(written.change, Change::Claimed(permutation[0].into()));
-//!     session.close(device, &mut tables, &mut tape)?;
+//!     // The block is on the device: a close wipes the keys and the tables.
+//!     session.close(device, &mut tables)?;
 //!
 //!     // Each session has an order of its own.
 //!     shuffle(geometry, &mut permutation, &mut tape)?;
@@ -51,7 +54,7 @@
 //! # What is not promised
 //!
 //! - **Time.** Nothing is proved of it. Counter mode of 192 bytes and more, and so every read, write and
-//!   close, has no look-up and no branch that depends on key or text, which is tested on the compiled
+//!   release, has no look-up and no branch that depends on key or text, which is tested on the compiled
 //!   code. GCM, and so an opening and a formatting, and counter mode of shorter texts look into a table:
 //!   how long they take, and which cache lines they touch, depends on key and data. With a
 //!   shuffle both depend on what is drawn.
@@ -60,12 +63,12 @@
 //! - **Random bytes.** The caller draws them, and uses none for two calls: two texts under one key
 //!   and IV betray each other, the tape of a formatting holds the keys of its volumes, and that of a
 //!   shuffle its permutation.
-//! - **Two sessions at once.** What is proved holds where, from an opening to its close, nothing but
-//!   these calls alters device, tables, tape position and session.
+//! - **Two sessions at once.** What is proved holds where, from an opening to its close or to the next
+//!   opening, nothing but these calls alters device, tables, tape position and session.
 //! - **Erased bytes.** A release leaves the bytes of its slice on the device, and whoever has the
 //!   volume's data key can still decipher them.
-//! - **Torn writes.** A claim or a release is in the device's maps only after a close, and a call that is
-//!   cut off half way leaves a device that no statement covers.
+//! - **Torn writes.** What is promised is about calls that returned. A stick that is pulled out inside a
+//!   call, or before the caller has stored there what the call changed, holds what no statement covers.
 //! - **Wiped memory.** A close sets the keys of its session to zeros. Copies that were made by moving
 //!   the session, and what a call leaves on the stack, stay.
 //!

@@ -30,7 +30,8 @@ pub enum Refusal {
     /// geometry's.
     HeaderGeometry = 8,
     /// A map entry that names no slice, or stands at or past the volume's count of logical slices, is
-    /// not the mark of an unmapped one.
+    /// not the mark of an unmapped one: at an opening any of the open volumes, at a claim or a release any
+    /// in the map block of the asked one, and otherwise the asked one.
     BadEntry = 9,
     /// A slice is mapped twice.
     SliceTwice = 10,

@@ -12,18 +12,44 @@ use crate::{Block, Geometry, Refusal, Tables, Tape, WriteRefused, Written};
 
 /// An open device: the volume that a key opened, with all below it.
 ///
-/// The device, the tables and the tape are lent to each call. From the opening to the close nothing
-/// but these calls may alter them, and the tables are those of the opening, as is the permutation. A
-/// session that is dropped without a close loses the slices that it claimed. Those that it released are
-/// mapped again at the next opening, and hold what was claimed there meanwhile.
+/// The device, the tables and the tape are lent to each call. As long as the session is used, nothing
+/// but these calls may alter them, and the tables are those of the opening, as is the permutation.
+///
+/// After every call that leaves it open the maps on the device are those in the tables: a claim and a
+/// release store the map block that holds their entry before they return. So a session that is dropped
+/// between two calls loses nothing. With the same key the device opens again, with any permutation, and its
+/// volumes hold what they held. That is promised of calls that returned, not of a stick that is pulled out
+/// inside a call. A [`close`](Session::close) only wipes the keys and the tables.
 ///
 /// A session has a start place: no slice at an earlier place of the permutation is free, and claims
 /// look from there on. So the probes of all its writes, those refused by 5 or 21 left out, add up to at
 /// most P times one more than its served releases.
 ///
 /// It also has the length of each open volume, as the volume was formatted: [`Session::blocks`].
+///
+/// ```
+/// use hiwalgam::{Block, Geometry, Refusal, Session, Tables, Tape};
+///
+/// # let random = vec![0x5a; 60_000];
+/// let geometry = Geometry { block_bytes: 1024, slice_blocks: 4, slices: 2 };
+/// let (key, block, text) = ([7; 32], Block { volume: 0, address: 5 }, [3; 1024]);
+/// let (mut tape, mut device) = (Tape::new(&random), vec![0; geometry.device_length()]);
+/// hiwalgam::format(&mut device, geometry, 1, &key, &[2], &mut tape)?;
+/// let mut tables = Tables::new(geometry);
+/// let mut session = Session::open(&device, geometry, &key, &mut tables, &[1, 0])?;
+/// let used = tape.position;
+/// session.write(&mut device, &mut tables, &[1, 0], &mut tape, block, &text)?;
+/// assert_eq!(tape.position - used, 1024 + 16);
+///
+/// // Without a close: session and tables are gone, and the block is there again.
+/// drop((session, tables));
+/// let (mut tables, mut buffer) = (Tables::new(geometry), [0; 1024]);
+/// let session = Session::open(&device, geometry, &key, &mut tables, &[0, 1])?;
+/// session.read(&device, &tables, block, &mut buffer)?;
+/// assert_eq!(buffer, text);
+/// # Ok::<(), Refusal>(())
+/// ```
 #[derive(PartialEq, Eq, Debug)]
-#[must_use = "what a session claims is lost without a close"]
 pub struct Session(sys::Session);
 
 impl Session {
@@ -127,13 +153,14 @@ impl Session {
 
     /// Writes a block: `text` has B bytes. Where the block's logical slice has a slice, the block is
     /// rewritten there and takes 16 bytes of the tape. Otherwise the first free slice in the order
-    /// of the permutation, from the start place on, is claimed, and takes B bytes; the start place
-    /// becomes the claimed place plus one. A claim is in the device's maps only after a close.
+    /// of the permutation, from the start place on, is claimed, and takes B + 16 bytes; the start place
+    /// becomes the claimed place plus one. The last 16 bytes are the IV of the map block that holds the
+    /// entry: it is on the device, as the slice is, when the call returns.
     ///
-    /// Refused by 20, 2, 4, 5 (length), 11, 12, 13, 9; a claim by 5 (a place that names no slice) or
-    /// 22; both by 21. A 22 sets the start place to P, and nothing else changes then. With another
-    /// permutation than that of the opening, here or at a release before, a 22 can come while an earlier
-    /// place is free.
+    /// Refused by 20, 2, 4, 5 (length), 11, 12, 13, 9 (a rewrite looks at the asked entry alone, a claim at
+    /// all entries of its map block); a claim by 5 (a place that names no slice) or 22; both by 21. A 22
+    /// sets the start place to P, and nothing else changes then. With another permutation than that of the
+    /// opening, here or at a release before, a 22 can come while an earlier place is free.
     pub fn write<M, O>(
         &mut self,
         device: &mut [u8],
@@ -172,11 +199,12 @@ impl Session {
     /// next write to one of them is a claim. The start place becomes the slice's place in the
     /// permutation where that is lower.
     ///
-    /// No byte of the device changes: what the slice held stays there, under the volume's key, until a
-    /// claim takes the slice. A release is in the device's maps only after a close. It takes no tape.
+    /// It takes 16 bytes of the tape, the IV of the map block that holds the entry: the block is on the
+    /// device when the call returns. No other byte of the device changes: what the slice held stays there,
+    /// under the volume's key, until a claim takes the slice.
     ///
-    /// Refused by 20, 2, 4, 5 (the whole permutation is tested, as at an opening), 11, 12, 9, 25 (the
-    /// logical slice has no slice); nothing changes then.
+    /// Refused by 20, 2, 4, 5 (the whole permutation is tested, as at an opening), 11, 12, 9 (any entry of
+    /// the map block), 25 (the logical slice has no slice), 21; nothing changes then.
     ///
     /// ```
     /// use hiwalgam::{Block, Change, Geometry, Refusal, Session, Tables, Tape};
@@ -194,21 +222,22 @@ impl Session {
     /// let block = Block { volume: 0, address: 5 };
     /// let written = session.write(&mut device, &mut tables, &permutation, &mut tape, block, &text)?;
     /// assert_eq!((written.change, session.start_place()), (Change::Claimed(1), 1));
-    /// assert_eq!(session.release(&device, &mut tables, &permutation, 0, 1), Ok(1));
-    /// assert_eq!(session.start_place(), 0);
+    /// let freed = session.release(&mut device, &mut tables, &permutation, &mut tape, 0, 1)?;
+    /// assert_eq!((freed, session.start_place()), (1, 0));
     ///
     /// let mut buffer = [0xff; 1024];
     /// session.read(&device, &tables, block, &mut buffer)?;
     /// assert_eq!(buffer, [0; 1024]);
-    /// let again = session.release(&device, &mut tables, &permutation, 0, 1);
+    /// let again = session.release(&mut device, &mut tables, &permutation, &mut tape, 0, 1);
     /// assert_eq!(again, Err(Refusal::SliceUnmapped));
     /// # Ok::<(), Refusal>(())
     /// ```
     pub fn release<M, O>(
         &mut self,
-        device: &[u8],
+        device: &mut [u8],
         tables: &mut Tables<M, O>,
         permutation: &[u32],
+        tape: &mut Tape<'_>,
         volume: u64,
         logical_slice: u64,
     ) -> Result<u64, Refusal>
@@ -222,10 +251,11 @@ impl Session {
         #[rustfmt::skip]
         let number = unsafe {
             sys::hiwalgam_release(
-                device.as_ptr(), device.len(),
+                device.as_mut_ptr(), device.len(),
                 maps.as_mut_ptr(), maps.len(),
                 owners.as_mut_ptr(), owners.len(),
                 permutation.as_ptr(), permutation.len(),
+                tape.bytes.as_ptr(), tape.bytes.len(), &mut tape.position,
                 &mut self.0, size_of::<sys::Session>(),
                 volume, logical_slice, &mut slice,
             )
@@ -234,17 +264,29 @@ impl Session {
         Ok(slice)
     }
 
-    /// Closes the session: the maps of the open volumes go to the device, with 16 bytes of the tape
-    /// for each map block. The tables are empty afterwards, and the session is closed, without keys;
-    /// geometry, volume, start place and counts stay.
+    /// Closes the session: wipes the keys and the tables, which are empty afterwards; geometry, volume,
+    /// start place and counts stay. The device is lent for its length alone, and no byte of it changes: it
+    /// opens to the same volumes as without the close. No tape is taken.
     ///
-    /// Refused by 20, 2, 4, 9, 21. Nothing changes then, and the close can be tried again.
-    pub fn close<M, O>(
-        &mut self,
-        device: &mut [u8],
-        tables: &mut Tables<M, O>,
-        tape: &mut Tape<'_>,
-    ) -> Result<(), Refusal>
+    /// Refused by 20, 2, 4. Nothing changes then, and the close can be tried again.
+    ///
+    /// ```
+    /// use hiwalgam::{Geometry, Refusal, Session, Tables, Tape};
+    ///
+    /// # let random = vec![0x5a; 60_000];
+    /// let geometry = Geometry { block_bytes: 1024, slice_blocks: 4, slices: 2 };
+    /// let (mut device, key) = (vec![0; geometry.device_length()], [7; 32]);
+    /// hiwalgam::format(&mut device, geometry, 1, &key, &[2], &mut Tape::new(&random))?;
+    /// let mut tables = Tables::new(geometry);
+    /// let mut session = Session::open(&device, geometry, &key, &mut tables, &[1, 0])?;
+    ///
+    /// session.close(&device, &mut tables)?;
+    /// assert_eq!(tables, Tables::new(geometry));
+    /// assert_eq!((session.is_open(), session.record().keys), (false, [0; 480]));
+    /// assert_eq!(session.close(&device, &mut tables), Err(Refusal::NotOpen));
+    /// # Ok::<(), Refusal>(())
+    /// ```
+    pub fn close<M, O>(&mut self, device: &[u8], tables: &mut Tables<M, O>) -> Result<(), Refusal>
     where
         M: AsMut<[u32]>,
         O: AsMut<[u8]>,
@@ -254,10 +296,9 @@ impl Session {
         #[rustfmt::skip]
         let number = unsafe {
             sys::hiwalgam_close(
-                device.as_mut_ptr(), device.len(),
+                device.as_ptr(), device.len(),
                 maps.as_mut_ptr(), maps.len(),
                 owners.as_mut_ptr(), owners.len(),
-                tape.bytes.as_ptr(), tape.bytes.len(), &mut tape.position,
                 &mut self.0, size_of::<sys::Session>(),
             )
         };

@@ -191,12 +191,14 @@ extern "C" {
         out: *mut u8, out_length: usize,
     ) -> usize;
 
-    /// Writes a block of an open volume: `text` has B bytes. A claim looks from the session's start
-    /// place on, which becomes the claimed place plus one.
+    /// Writes a block of an open volume: `text` has B bytes. A rewrite takes 16 bytes of the tape, a claim
+    /// B + 16: its map block is on the device, with the last 16 for its IV, when the call returns. A claim
+    /// looks from the session's start place on, which becomes the claimed place plus one.
     ///
     /// Refused by 13 (session or written of another size), 20, 2, 4, 5 (length), 11, 12, 13 (text),
-    /// 9; a claim by 5 (a place that names no slice) or 22; both by 21. A 22 sets the start place to
-    /// P. `written` is set, refused or not, unless its size is wrong.
+    /// 9 (a rewrite: the asked entry; a claim: any entry of its map block); a claim by 5 (a place that
+    /// names no slice) or 22; both by 21. A 22 sets the start place to P. `written` is set, refused or
+    /// not, unless its size is wrong.
     pub fn hiwalgam_write(
         device: *mut u8, device_length: usize,
         maps: *mut u32, maps_length: usize,
@@ -211,27 +213,29 @@ extern "C" {
 
     /// Releases a logical slice of an open volume: its entry becomes [`UNMAPPED`], its slice free and
     /// `*slice` that slice. The session's start place becomes the slice's place in the permutation where
-    /// that is lower. The device is lent for its length alone.
+    /// that is lower. It takes 16 bytes of the tape: the IV of the map block that holds the entry, which is
+    /// on the device when the call returns. No other byte of the device changes.
     ///
-    /// Refused by 13 (session of another size), 20, 2, 4, 5, 11, 12, 9, 25; `*slice` stays then.
+    /// Refused by 13 (session of another size), 20, 2, 4, 5, 11, 12, 9 (any entry of the map block), 25,
+    /// 21; `*slice` stays then.
     pub fn hiwalgam_release(
-        device: *const u8, device_length: usize,
+        device: *mut u8, device_length: usize,
         maps: *mut u32, maps_length: usize,
         owners: *mut u8, owners_length: usize,
         permutation: *const u32, permutation_length: usize,
+        tape: *const u8, tape_length: usize, position: *mut usize,
         session: *mut Session, session_size: usize,
         volume: u64, logical_slice: u64, slice: *mut u64,
     ) -> u8;
 
-    /// Closes a session: the maps of the open volumes go to the device, and the tables and the keys
-    /// are wiped; geometry, volume, start place and counts stay.
+    /// Closes a session: the tables and the keys are wiped; geometry, volume, start place and counts
+    /// stay. The device is lent for its length alone.
     ///
-    /// Refused by 13 (session of another size), 20, 2, 4, 9, 21.
+    /// Refused by 13 (session of another size), 20, 2, 4.
     pub fn hiwalgam_close(
-        device: *mut u8, device_length: usize,
+        device: *const u8, device_length: usize,
         maps: *mut u32, maps_length: usize,
         owners: *mut u8, owners_length: usize,
-        tape: *const u8, tape_length: usize, position: *mut usize,
         session: *mut Session, session_size: usize,
     ) -> u8;
 

@@ -56,7 +56,7 @@ pub struct Block {
 }
 
 /// The tables of an open device, which an opening fills and the other calls take. They are lent:
-/// a session does not keep them. From an opening to its close nothing else may alter them.
+/// a session does not keep them. As long as it is used, nothing else may alter them.
 ///
 /// They own their memory, or borrow it: `Tables { maps: &mut maps[..], owners: &mut owners[..] }`.
 #[derive(Clone, PartialEq, Eq, Debug)]
@@ -87,7 +87,7 @@ impl Tables {
 pub struct Tape<'a> {
     /// The whole tape, the used bytes included.
     pub bytes: &'a [u8],
-    /// The next unused byte. A served formatting, shuffle, write or close moves it on.
+    /// The next unused byte. A served formatting, shuffle, write or release moves it on.
     pub position: usize,
 }
 

@@ -84,6 +84,23 @@ impl Geometry {
         header.start + self.b..header.end
     }
 
+    /// The number of the map block, among those of a volume, that holds a logical slice's entry.
+    pub fn map_block_of(self, logical: usize) -> usize {
+        logical / self.entries_in_block()
+    }
+
+    /// The logical slices whose entries map block `t` of a volume holds.
+    pub fn map_block_slices(self, t: usize) -> Range<usize> {
+        let entries = self.entries_in_block();
+        t * entries..self.p.min((t + 1) * entries)
+    }
+
+    /// The bytes of map block `t` of header `i`.
+    pub fn map_block(self, i: usize, t: usize) -> Range<usize> {
+        let start = self.maps(i).start + self.b * t;
+        start..start + self.b
+    }
+
     /// The bytes of slice `slice`, its IV block included.
     pub fn slice(self, slice: usize) -> Range<usize> {
         let len = self.b * (self.s + 1);

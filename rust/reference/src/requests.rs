@@ -32,7 +32,7 @@ fn open_count(session: &Session, volume: usize) -> Result<usize, Refusal> {
     Ok(session.counts[volume])
 }
 
-/// The index of the target's map entry, and the offset of its block in the slice.
+/// The logical slice of the target, and the offset of its block in the slice.
 fn locate(
     geometry: Geometry,
     session: &Session,
@@ -41,9 +41,7 @@ fn locate(
     if target.address >= geometry.blocks(open_count(session, target.volume)?) {
         return Err(Refusal::AddressAbove);
     }
-    let logical = target.address / geometry.s;
-    let offset = target.address % geometry.s;
-    Ok((geometry.entry(target.volume, logical), offset))
+    Ok((target.address / geometry.s, target.address % geometry.s))
 }
 
 /// The physical slice of a map entry, or None where it is unmapped.
@@ -65,11 +63,11 @@ fn find_block(
     right_buffer: impl Fn(Geometry) -> bool,
 ) -> Result<(Geometry, Option<(usize, usize)>), Refusal> {
     let geometry = check_lent(device, maps, owners, session)?;
-    let (index, offset) = locate(geometry, session, target)?;
+    let (logical, offset) = locate(geometry, session, target)?;
     if !right_buffer(geometry) {
         return Err(Refusal::WrongLength);
     }
-    let slice = mapped(geometry, maps[index])?;
+    let slice = mapped(geometry, maps[geometry.entry(target.volume, logical)])?;
     Ok((geometry, slice.map(|slice| (slice, offset))))
 }
 
@@ -110,7 +108,8 @@ pub fn find<'a>(
 }
 
 /// Writes a block: over the old one where its slice is mapped, else into a free slice. A claim moves
-/// the session's start place past the slice that it takes, or to P where it finds none.
+/// the session's start place past the slice that it takes, or to P where it finds none, and stores the
+/// map block that holds the entry.
 pub fn write(
     device: &mut [u8],
     tables: &mut Tables,
@@ -124,24 +123,26 @@ pub fn write(
     if permutation.len() != geometry.p {
         return Err(Refusal::BadPermutation.into());
     }
-    let (index, offset) = locate(geometry, session, target)?;
+    let (logical, offset) = locate(geometry, session, target)?;
     if text.len() != geometry.b {
         return Err(Refusal::WrongLength.into());
     }
+    let (volume, index) = (target.volume, geometry.entry(target.volume, logical));
 
     if let Some(slice) = mapped(geometry, tables.maps[index])? {
         tape.check(IV)?;
         let iv = tape.draw(IV);
         device[geometry.iv(slice, offset)].copy_from_slice(iv);
-        let key = session.data_key(target.volume);
+        let key = session.data_key(volume);
         store(key, iv, text, &mut device[geometry.data(slice, offset)]);
         return Ok(Stored::Rewritten { slice });
     }
 
+    check_map_block(geometry, tables.maps, session, volume, logical)?;
     let (slice, probes) = find_free(permutation, tables.owners, session)?;
     let short = |refusal| Refused { refusal, probes };
-    tape.check(geometry.b).map_err(short)?;
-    let key = session.data_key(target.volume);
+    tape.check(geometry.b + IV).map_err(short)?;
+    let key = session.data_key(volume);
     let (iv_block, data) = device[geometry.slice(slice)].split_at_mut(geometry.b);
     iv_block.copy_from_slice(tape.draw(geometry.b));
     let zeros = vec![0; geometry.b];
@@ -150,8 +151,10 @@ pub fn write(
         store(key, iv, if j == offset { text } else { &zeros }, block);
     }
     tables.maps[index] = slice as u32;
-    tables.owners[slice] = target.volume as u8 + 1;
+    tables.owners[slice] = volume as u8 + 1;
     session.start_place += probes;
+    let iv = tape.draw(IV);
+    store_map_block(geometry, device, tables.maps, session, iv, volume, logical);
     Ok(Stored::Claimed { slice, probes })
 }
 
@@ -182,11 +185,13 @@ fn find_free(
 }
 
 /// Gives back the slice of a logical slice, which is unmapped and reads as zeros afterwards. The start
-/// place becomes the slice's place, where that is lower. No byte of the device is looked at.
+/// place becomes the slice's place, where that is lower. The map block that holds the entry is stored;
+/// the bytes of the slice stay.
 pub fn release(
-    device: &[u8],
+    device: &mut [u8],
     tables: &mut Tables,
     permutation: &[u32],
+    tape: &mut Tape,
     session: &mut Session,
     volume: usize,
     logical: usize,
@@ -198,55 +203,73 @@ pub fn release(
     if logical >= open_count(session, volume)? {
         return Err(Refusal::AddressAbove);
     }
+    check_map_block(geometry, tables.maps, session, volume, logical)?;
     let entry = &mut tables.maps[geometry.entry(volume, logical)];
     let slice = mapped(geometry, *entry)?.ok_or(Refusal::SliceUnmapped)?;
+    tape.check(IV)?;
 
     *entry = UNMAPPED;
     tables.owners[slice] = 0;
     let mut places = permutation.iter();
     let place = places.position(|&named| named as usize == slice).unwrap();
     session.start_place = session.start_place.min(place);
+    let iv = tape.draw(IV);
+    store_map_block(geometry, device, tables.maps, session, iv, volume, logical);
     Ok(slice)
 }
 
-/// Writes the maps of volumes 0 to k and closes the session.
-pub fn close(
-    device: &mut [u8],
-    tables: &mut Tables,
-    tape: &mut Tape,
-    session: &mut Session,
-) -> Result<(), Refusal> {
-    let geometry = check_lent(device, tables.maps, tables.owners, session)?;
-    let volumes = session.k + 1;
-    let rows = tables.maps.chunks(geometry.p);
-    for (row, &count) in rows.zip(&session.counts[..volumes]) {
-        check_row(geometry, row, count)?;
-    }
-    tape.check(IV * geometry.map_blocks() * volumes)?;
-
-    let rows = tables.maps.chunks(geometry.p);
-    for (volume, row) in rows.enumerate().take(volumes) {
-        let blocks = device[geometry.maps(volume)].chunks_mut(geometry.b);
-        let parts = row.chunks(geometry.entries_in_block());
-        for (block, entries) in blocks.zip(parts) {
-            write_map_block(session.data_key(volume), tape.draw(IV), entries, block);
-        }
-    }
+/// Closes the session: wipes the tables and the keys. The device is lent for its length alone.
+pub fn close(device: &[u8], tables: &mut Tables, session: &mut Session) -> Result<(), Refusal> {
+    check_lent(device, tables.maps, tables.owners, session)?;
     tables.clear();
     session.keys = [0; KEYS];
     session.opened = false;
     Ok(())
 }
 
-/// Refuses a volume's row of the map table where an entry is no slice, or is mapped at or past the
-/// volume's count.
-fn check_row(geometry: Geometry, row: &[u32], count: usize) -> Result<(), Refusal> {
-    for (logical, &entry) in row.iter().enumerate() {
-        if mapped(geometry, entry)?.is_some() && logical >= count {
+/// The part of the map table that the map block with the entry of a logical slice holds, as entries
+/// with their logical slices.
+fn map_block_entries(
+    geometry: Geometry,
+    maps: &[u32],
+    volume: usize,
+    logical: usize,
+) -> impl Iterator<Item = (usize, u32)> + '_ {
+    let slices = geometry.map_block_slices(geometry.map_block_of(logical));
+    slices.map(move |logical| (logical, maps[geometry.entry(volume, logical)]))
+}
+
+/// Refuses where an entry of the map block that holds a logical slice's entry is no slice, or is mapped
+/// at or past the volume's count.
+fn check_map_block(
+    geometry: Geometry,
+    maps: &[u32],
+    session: &Session,
+    volume: usize,
+    logical: usize,
+) -> Result<(), Refusal> {
+    for (logical, entry) in map_block_entries(geometry, maps, volume, logical) {
+        if mapped(geometry, entry)?.is_some() && logical >= session.counts[volume] {
             return Err(Refusal::BadEntry);
         }
     }
     Ok(())
+}
+
+/// Stores the map block that holds a logical slice's entry, from the map table.
+fn store_map_block(
+    geometry: Geometry,
+    device: &mut [u8],
+    maps: &[u32],
+    session: &Session,
+    iv: &[u8],
+    volume: usize,
+    logical: usize,
+) {
+    let entries = map_block_entries(geometry, maps, volume, logical);
+    let entries: Vec<u32> = entries.map(|(_, entry)| entry).collect();
+    let block = geometry.map_block(volume, geometry.map_block_of(logical));
+    write_map_block(session.data_key(volume), iv, &entries, &mut device[block]);
 }
 
 /// Writes the IV and the entries of a map block. Entries past the last are unmapped: four bytes FF.

@@ -141,7 +141,8 @@ impl Walk {
             (slice, probes) = self.find_free()?;
             self.maps[entry] = slice;
             self.owners[slice as usize] = volume as u8 + 1;
-            self.position += geometry.b;
+            // The slice's IV block, and the IV of the map block that holds the entry.
+            self.position += geometry.b + IV;
         } else {
             self.position += IV;
         }

@@ -1,6 +1,6 @@
-//! The speed of the proved engine beside that of the reference, of its reads, writes and closes beside
+//! The speed of the proved engine beside that of the reference, of its reads, writes and releases beside
 //! its own counter mode alone, of its formatting beside a plain copy, and of claims that fill a stick
-//! beside the same slices stored without a search. Nothing here asserts a time.
+//! beside the same slices and map blocks stored without a claim. Nothing here asserts a time.
 //!
 //! Each implementation is called in its own form, without the tests' interface, whose adapters copy
 //! the session.
@@ -10,7 +10,7 @@ use std::rc::Rc;
 use std::time::Instant;
 
 use hiwalgam::{Block, Tables, Tape};
-use hiwalgam_reference::geometry::Geometry;
+use hiwalgam_reference::geometry::{Geometry, IV};
 use hiwalgam_reference::session::{self, Stored};
 use hiwalgam_reference::{formatting, opening, requests, shuffling};
 use hiwalgam_tests::inputs::Random;
@@ -37,7 +37,8 @@ const FILL_ROUNDS: usize = 21;
 /// About how long a turn lasts, in seconds.
 const TURN_SECONDS: f64 = 0.001;
 
-/// Rows whose ratios to one another are printed.
+/// Rows that stand in two tables, or whose ratios to one another are printed.
+const CLAIM: &str = "claim, S 4";
 const RELEASE: &str = "release, P 256";
 const LARGE_RELEASE: &str = "release, P 4096";
 const SHUFFLE: &str = "shuffle, P 256";
@@ -115,7 +116,8 @@ impl Bench {
             key: stick.volumes[VOLUMES - 1].key,
             permutation,
             tables: Tables::new(geometry),
-            tape: random.bytes(layout.b).to_vec(),
+            // As many as a claim takes.
+            tape: random.bytes(layout.b + IV).to_vec(),
             // Twice as many as where no draw is thrown away.
             draws: random.bytes(4 * layout.p).to_vec(),
             shuffled: vec![0; layout.p],
@@ -141,7 +143,7 @@ trait Session: Sized {
     /// Writes a block with the first bytes of the tape, and gives the slice and the probes.
     fn write(&mut self, bench: &mut Bench, target: Target) -> (usize, usize);
 
-    /// Releases a logical slice of a volume, and gives the slice freed.
+    /// Releases a logical slice of a volume with the first bytes of the tape, and gives the slice freed.
     fn release(&mut self, bench: &mut Bench, place: (usize, usize)) -> usize;
 
     /// Makes a permutation from the tape for shuffles, and gives the bytes used.
@@ -153,7 +155,7 @@ trait Session: Sized {
     /// Sets the start place.
     fn start_at(&mut self, place: usize);
 
-    /// Closes a copy of the session.
+    /// Closes a copy of the session, which wipes the tables whatever they hold.
     fn close(&mut self, bench: &mut Bench);
 }
 
@@ -190,13 +192,6 @@ fn release<S: Session>(session: &mut S, bench: &mut Bench) {
 /// A shuffle, which takes no session.
 fn shuffle<S: Session>(_: &mut S, bench: &mut Bench) {
     S::shuffle(bench);
-}
-
-/// A close, after which the tables are put back.
-fn close<S: Session>(session: &mut S, bench: &mut Bench) {
-    let tables = bench.tables.clone();
-    session.close(bench);
-    bench.tables = tables;
 }
 
 struct Library(hiwalgam::Session);
@@ -241,9 +236,9 @@ impl Session for Library {
     }
 
     fn release(&mut self, bench: &mut Bench, (volume, logical): (usize, usize)) -> usize {
-        let (device, tables, order) = (&bench.device, &mut bench.tables, &bench.permutation);
-        let (volume, logical) = (volume as u64, logical as u64);
-        let slice = self.0.release(device, tables, order, volume, logical);
+        let (device, tables, order) = (&mut bench.device, &mut bench.tables, &bench.permutation);
+        let (tape, volume, logical) = (&mut Tape::new(&bench.tape), volume as u64, logical as u64);
+        let slice = self.0.release(device, tables, order, tape, volume, logical);
         slice.unwrap() as usize
     }
 
@@ -265,9 +260,7 @@ impl Session for Library {
 
     fn close(&mut self, bench: &mut Bench) {
         let mut session = hiwalgam::Session::from_record(self.0.record().clone());
-        let (device, tables) = (&mut bench.device, &mut bench.tables);
-        let answer = session.close(device, tables, &mut Tape::new(&bench.tape));
-        answer.unwrap();
+        session.close(&bench.device, &mut bench.tables).unwrap();
     }
 }
 
@@ -330,9 +323,14 @@ impl Session for Reference {
     }
 
     fn release(&mut self, bench: &mut Bench, (volume, logical): (usize, usize)) -> usize {
-        let (device, order) = (&bench.device, &bench.permutation);
+        let (device, order, tape) = (
+            &mut bench.device,
+            &bench.permutation,
+            &mut reference_tape(&bench.tape),
+        );
         let tables = &mut reference_tables(&mut bench.tables);
-        requests::release(device, tables, order, &mut self.0, volume, logical).unwrap()
+        let slice = requests::release(device, tables, order, tape, &mut self.0, volume, logical);
+        slice.unwrap()
     }
 
     fn shuffle(bench: &mut Bench) -> usize {
@@ -353,8 +351,7 @@ impl Session for Reference {
     fn close(&mut self, bench: &mut Bench) {
         let mut session = self.0.clone();
         let tables = &mut reference_tables(&mut bench.tables);
-        let tape = &mut reference_tape(&bench.tape);
-        requests::close(&mut bench.device, tables, tape, &mut session).unwrap();
+        requests::close(&bench.device, tables, &mut session).unwrap();
     }
 }
 
@@ -386,14 +383,26 @@ fn fill_from_0<S: Session>(session: &mut S, bench: &mut Bench) {
 }
 
 /// Stores what the claims of a filling store, without a claim: for each slice in the same order the IV
-/// block from the tape, and the text in the library's counter mode.
+/// block from the tape, and in the library's counter mode the text and the map block with one entry more.
 fn store_alone(session: &mut Library, bench: &mut Bench) {
     let key = &session.0.record().keys[..32];
-    for &slice in &bench.permutation {
+    let (iv_bytes, map_iv) = bench.tape.split_at(FILL_B);
+    let mut map = Vec::new();
+    for (logical, &slice) in bench.permutation.iter().enumerate() {
         let place = bench.layout.slice(slice as usize);
         let (iv_block, data) = bench.device[place].split_at_mut(FILL_B);
-        iv_block.copy_from_slice(&bench.tape);
-        hiwalgam::counter_mode(key, &iv_block[..16], &bench.buf, data).unwrap();
+        iv_block.copy_from_slice(iv_bytes);
+        hiwalgam::counter_mode(key, &iv_block[..IV], &bench.buf, data).unwrap();
+
+        let t = bench.layout.map_block_of(logical);
+        let entry = 4 * (logical - bench.layout.map_block_slices(t).start);
+        if entry == 0 {
+            map = vec![0xff; FILL_B - IV];
+        }
+        map[entry..entry + 4].copy_from_slice(&slice.to_be_bytes());
+        let (iv, entries) = bench.device[bench.layout.map_block(0, t)].split_at_mut(IV);
+        iv.copy_from_slice(map_iv);
+        hiwalgam::counter_mode(key, map_iv, &map, entries).unwrap();
     }
 }
 
@@ -549,11 +558,11 @@ fn all_calls<S: Session + 'static>(small: &Bench, large: &Bench) -> Vec<Measured
     vec![
         Measured::on(small, "read, mapped", S::read),
         Measured::on(small, "rewrite", rewrite::<S>),
-        Measured::on(small, "claim, S 4", claim::<S>),
+        Measured::on(small, CLAIM, claim::<S>),
         Measured::on(small, "find", S::find),
         Measured::on(small, RELEASE, release::<S>),
         Measured::on(large, LARGE_RELEASE, release::<S>),
-        Measured::on(small, "close, P 256", close::<S>),
+        Measured::on(small, "close, P 256", S::close),
         Measured::on(small, OPEN, open::<S>),
         Measured::on(large, LARGE_OPEN, open::<S>),
         Measured::on(small, SHUFFLE, shuffle::<S>),
@@ -561,12 +570,13 @@ fn all_calls<S: Session + 'static>(small: &Bench, large: &Bench) -> Vec<Measured
     ]
 }
 
-/// So many calls of the library's counter mode, each over so many bytes.
-fn counter_mode(calls: usize, bytes: usize) -> Measured {
-    let (text, mut out) = (vec![0x5c; bytes], vec![0; bytes]);
+/// Calls of the library's counter mode, each over a text of so many bytes, of which the first is the longest.
+fn counter_mode(lengths: &[usize]) -> Measured {
+    let (text, mut out) = (vec![0x5c; lengths[0]], vec![0; lengths[0]]);
+    let lengths = lengths.to_vec();
     Measured::new("counter mode", move || {
-        for _ in 0..calls {
-            let (text, out) = (black_box(&text), black_box(&mut out));
+        for &length in &lengths {
+            let (text, out) = (black_box(&text[..length]), black_box(&mut out[..length]));
             hiwalgam::counter_mode(&[0x42; 32], &[0x17; 16], text, out).unwrap();
         }
     })
@@ -576,25 +586,26 @@ fn counter_mode(calls: usize, bytes: usize) -> Measured {
 /// numbers of bytes.
 fn with_counter_mode(bench: &Bench) -> Vec<[Measured; 2]> {
     let (b, s) = (bench.layout.b, bench.layout.s);
-    let map_blocks = VOLUMES * bench.layout.map_blocks();
+    // A map block is enciphered less its IV.
+    let map_block = b - IV;
+    let claimed = [&vec![b; s][..], &[map_block]].concat();
     vec![
         [
             Measured::on(bench, "read", Library::read),
-            counter_mode(1, b),
+            counter_mode(&[b]),
         ],
         [
             Measured::on(bench, "rewrite", rewrite::<Library>),
-            counter_mode(1, b),
+            counter_mode(&[b]),
         ],
-        // Every block of the slice.
+        // Every block of the slice, and the map block.
         [
-            Measured::on(bench, "claim, S 4", claim::<Library>),
-            counter_mode(s, b),
+            Measured::on(bench, CLAIM, claim::<Library>),
+            counter_mode(&claimed),
         ],
-        // Every map block, less its IV.
         [
-            Measured::on(bench, "close, P 256", close::<Library>),
-            counter_mode(map_blocks, b - 16),
+            Measured::on(bench, RELEASE, release::<Library>),
+            counter_mode(&[map_block]),
         ],
     ]
 }
@@ -661,7 +672,7 @@ fn main() {
     println!(
         "A filling is of {FILL_P} claims on a blank stick, B {FILL_B}, S 1; medians of {FILL_ROUNDS} rounds."
     );
-    println!("A release is of the last slice of the permutation that is held.");
+    println!("A release is of the last slice of the permutation that is held. A close only wipes.");
     println!("A shuffle is from random bytes, and at P 4096 throws {thrown} draws away.");
     println!("Times of one call in microseconds; ratios are of times in the same round.\n");
     println!("call              library    reference  library/reference");
@@ -674,22 +685,22 @@ fn main() {
     println!(
         "\nThe library's calls beside its counter mode alone, over as many bytes in as many texts."
     );
-    println!("                      B {B}                              B {SMALL_B}");
-    println!("call               call        alone   ratio         call        alone   ratio");
+    println!("                        B {B}                              B {SMALL_B}");
+    println!("call                 call        alone   ratio         call        alone   ratio");
     let [large_blocks, small_blocks] = &multiples;
     for rows in large_blocks.iter().zip(small_blocks) {
         let columns = [rows.0, rows.1].map(|[call, alone]| {
             let (times, ratio) = ([call, alone].map(Measured::microseconds), call.ratio(alone));
             format!("{:>12.3} {:>12.3} {ratio:>7.3}", times[0], times[1])
         });
-        println!("{:<12} {}", rows.0[0].name, columns.join(" "));
+        println!("{:<14} {}", rows.0[0].name, columns.join(" "));
     }
 
     println!("\nA filling looks at {looks} places; each claim from place 0, at {LOOKS_FROM_0}.");
     for (name, ratio) in [
         ("format / copy of as many bytes", format_to_copy),
-        // The same slices in the same order: IV blocks copied, texts in counter mode.
-        ("fill / slices stored by counter mode", fill_to_store),
+        // The same slices in the same order: IV blocks copied, texts and map blocks in counter mode.
+        ("fill / stored by counter mode alone", fill_to_store),
         ("fill, each claim from place 0 / fill", from_0_to_fill),
         (
             "open P 4096 / P 256, library",

@@ -197,21 +197,17 @@ pub trait Engine: Debug {
     ) -> Written;
 
     /// Gives the slice freed. `logical` is a logical slice of the volume.
+    #[allow(clippy::too_many_arguments)]
     fn release(
         &self,
-        device: &[u8],
+        device: &mut [u8],
         tables: &mut Tables,
         permutation: &[u32],
+        tape: &mut Tape,
         session: &mut Session,
         volume: usize,
         logical: usize,
     ) -> Result<usize, Refusal>;
 
-    fn close(
-        &self,
-        device: &mut [u8],
-        tables: &mut Tables,
-        tape: &mut Tape,
-        session: &mut Session,
-    ) -> Answer;
+    fn close(&self, device: &[u8], tables: &mut Tables, session: &mut Session) -> Answer;
 }

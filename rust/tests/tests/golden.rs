@@ -1,6 +1,7 @@
 //! The transcripts of `testdata` on each implementation. Their images and answers come from a script
 //! that uses none of them; `testdata/README.md` says how they are read. After each call the whole of
-//! what was lent is compared, with the guards around it.
+//! what was lent is compared, with the guards around it. Besides, the session is dropped there in
+//! thought, wherever it passed on untouched from its opening: the device has to open to what it holds.
 
 use std::collections::HashMap;
 use std::fs;
@@ -249,13 +250,13 @@ impl State {
             }
             ["release", volume, logical] => {
                 let (volume, logical) = (number(volume), number(logical));
-                let tables = &mut tables;
-                match engine.release(device, tables, permutation, session, volume, logical) {
+                let (tables, tape) = (&mut tables, &mut tape);
+                match engine.release(device, tables, permutation, tape, session, volume, logical) {
                     Ok(slice) => format!("0 {slice}"),
                     Err(refusal) => refusal.number().to_string(),
                 }
             }
-            ["close"] => shown(engine.close(device, &mut tables, &mut tape, session)).to_string(),
+            ["close"] => shown(engine.close(device, &mut tables, session)).to_string(),
             ["format", volumes, keys, handed] => {
                 let (volumes, numbers) = (number(volumes), self.geometry);
                 let keys = Guarded::new(&hexadecimal(keys));
@@ -288,6 +289,34 @@ impl State {
         .collect();
         assert!(differing.is_empty(), "not as expected: {differing:?}");
     }
+
+    /// The session is dropped here: with its key a copy of the device opens to the tables and the
+    /// session held, whose start place alone goes by the permutation.
+    fn assert_opens_again(&self, engine: &dyn Engine, key: &[u8]) {
+        let held = &self.session;
+        let mut maps = Guarded::new(&vec![0; self.maps.len()]);
+        let mut owners = Guarded::new(&vec![u8::MAX; self.owners.len()]);
+        let mut tables = Tables {
+            maps: &mut maps,
+            owners: &mut owners,
+        };
+        let permutation: Vec<u32> = (0..held.p as u32).rev().collect();
+        let (device, numbers) = (self.device.clone(), [held.b, held.s, held.p]);
+        let mut opened = Session::CLOSED;
+        let answer = engine.open(
+            &device,
+            numbers,
+            key,
+            &mut tables,
+            &permutation,
+            &mut opened,
+        );
+        opened.start_place = held.start_place;
+        assert!(answer == SERVED, "dropped, it opens with {answer:?}");
+        assert!(opened == *held, "dropped, it opens to another session");
+        assert!(maps == self.maps, "dropped, it opens to other maps");
+        assert!(owners == self.owners, "dropped, it opens to other owners");
+    }
 }
 
 // ---- transcripts
@@ -303,11 +332,41 @@ impl Drop for Line<'_> {
     }
 }
 
-/// Follows a transcript, and gives the number of its calls.
-fn follow(engine: &dyn Engine, files: &Files, name: &str, transcript: &str) -> usize {
+/// The key with which a session that is dropped opens again: that of a served opening, from there on
+/// while device, tables and session pass on from call to call.
+#[derive(Default)]
+struct Passing(Option<Vec<u8>>);
+
+impl Passing {
+    fn given(&mut self, part: &str) {
+        if !["geometry", "permutation", "order", "tape", "position"].contains(&part) {
+            self.0 = None;
+        }
+    }
+
+    fn called(&mut self, call: &[&str], served: bool) {
+        match *call {
+            ["open", key] => self.0 = served.then(|| hexadecimal(key)),
+            ["close"] | ["format", ..] if served => self.0 = None,
+            _ => {}
+        }
+    }
+}
+
+/// What was done with a transcript.
+#[derive(Default)]
+struct Followed {
+    calls: usize,
+    /// After how many of them the session was dropped.
+    drops: usize,
+}
+
+/// Follows a transcript.
+fn follow(engine: &dyn Engine, files: &Files, name: &str, transcript: &str) -> Followed {
     let mut lent = State::empty();
     let mut expected = State::empty();
-    let mut calls = 0;
+    let mut passing = Passing::default();
+    let mut followed = Followed::default();
     let mut compared = true;
     for (i, text) in transcript.lines().enumerate() {
         let _named = Line(name, i + 1, text);
@@ -318,10 +377,15 @@ fn follow(engine: &dyn Engine, files: &Files, name: &str, transcript: &str) -> u
                 assert!(compared, "the call before is not compared");
                 lent.set(files, part);
                 expected.set(files, part);
+                passing.given(part[0]);
             }
             ["then", ref part @ ..] => expected.set(files, part),
             ["compare"] => {
                 lent.assert_equals(&expected);
+                if let Passing(Some(key)) = &passing {
+                    lent.assert_opens_again(engine, key);
+                    followed.drops += 1;
+                }
                 compared = true;
             }
             ["image", file] => assert!(*lent.device == *files.whole(file), "the device differs"),
@@ -331,14 +395,16 @@ fn follow(engine: &dyn Engine, files: &Files, name: &str, transcript: &str) -> u
                     .iter()
                     .position(|&word| word == "=")
                     .expect("an answer");
-                lent.call(engine, files, &words[..equals], &words[equals + 1..]);
-                calls += 1;
+                let (call, want) = (&words[..equals], &words[equals + 1..]);
+                lent.call(engine, files, call, want);
+                passing.called(call, want[0] == "0");
+                followed.calls += 1;
                 compared = false;
             }
         }
     }
     assert!(compared, "the last call is not compared");
-    calls
+    followed
 }
 
 /// The folder `testdata` of the repository.
@@ -365,9 +431,12 @@ fn follow_all(engine: &dyn Engine) {
     assert!(!transcripts.is_empty(), "no transcript");
     transcripts.sort();
     let files = Files(files);
+    let mut dropped = 0;
     for (name, transcript) in &transcripts {
-        let calls = follow(engine, &files, name, transcript);
+        let Followed { calls, drops } = follow(engine, &files, name, transcript);
         assert!(calls > 0, "{name} has no call");
-        println!("{engine:?}: {calls} calls of {name}");
+        println!("{engine:?}: {calls} calls of {name}, {drops} drops");
+        dropped += drops;
     }
+    assert!(dropped > 0, "no session is dropped");
 }

@@ -202,10 +202,10 @@ fn functions_are_the_headers() {
 }
 
 /// The attribute that a parameter asks for, by its number: a list goes with the length behind it, and
-/// one number stands alone. Write, release and close also read what they are lent to be written.
+/// one number stands alone. Write and release also read what they are lent to be written.
 fn attribute(function: &str, number: usize, parameter: &str) -> Option<String> {
     let (_, of) = parameter.split_once(": ")?;
-    let reads = ["hiwalgam_write", "hiwalgam_release", "hiwalgam_close"].contains(&function);
+    let reads = ["hiwalgam_write", "hiwalgam_release"].contains(&function);
     let word = match of {
         "*const u8" | "*const u32" | "*const u64" => "IN",
         "*mut u8" | "*mut u32" if reads => "INOUT",

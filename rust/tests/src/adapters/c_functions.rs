@@ -289,54 +289,50 @@ pub fn write(
 
 /// `hiwalgam_release`.
 #[rustfmt::skip]
+#[allow(clippy::too_many_arguments)]
 pub fn release(
-    device: &[u8],
+    device: &mut [u8],
     tables: &mut Tables,
     permutation: &[u32],
+    tape: &mut Tape,
     session: &mut Record,
     volume: usize,
     logical: usize,
     slice: &mut usize,
 ) -> Answer {
+    let mut position = Guarded::new(&[tape.position]);
     let mut freed = Guarded::new(&[*slice]);
     // SAFETY: each pointer goes with a length for which it is valid.
     let number = unsafe {
         sys::hiwalgam_release(
-            start(device), device.len(),
+            start_mut(device), device.len(),
             start_mut(tables.maps), tables.maps.len(),
             start_mut(tables.owners), tables.owners.len(),
             start(permutation), permutation.len(),
+            start(tape.bytes), tape.bytes.len(), start_mut(&mut position),
             session.start_mut(), session.size,
             volume as u64, logical as u64, start_mut(&mut freed).cast(),
         )
     };
+    assert!(position.is_intact(), "the guards of the position");
     assert!(freed.is_intact(), "the guards of the slice");
+    tape.position = position[0];
     *slice = freed[0];
     answer(number)
 }
 
 /// `hiwalgam_close`.
 #[rustfmt::skip]
-pub fn close(
-    device: &mut [u8],
-    tables: &mut Tables,
-    tape: &mut Tape,
-    session: &mut Record,
-) -> Answer {
-    let mut position = Guarded::new(&[tape.position]);
+pub fn close(device: &[u8], tables: &mut Tables, session: &mut Record) -> Answer {
     // SAFETY: each pointer goes with a length for which it is valid.
-    let number = unsafe {
+    answer(unsafe {
         sys::hiwalgam_close(
-            start_mut(device), device.len(),
+            start(device), device.len(),
             start_mut(tables.maps), tables.maps.len(),
             start_mut(tables.owners), tables.owners.len(),
-            start(tape.bytes), tape.bytes.len(), start_mut(&mut position),
             session.start_mut(), session.size,
         )
-    };
-    assert!(position.is_intact(), "the guards of the position");
-    tape.position = position[0];
-    answer(number)
+    })
 }
 
 impl Engine for CFunctions {
@@ -443,9 +439,10 @@ impl Engine for CFunctions {
 
     fn release(
         &self,
-        device: &[u8],
+        device: &mut [u8],
         tables: &mut Tables,
         permutation: &[u32],
+        tape: &mut Tape,
         session: &mut Session,
         volume: usize,
         logical: usize,
@@ -457,6 +454,7 @@ impl Engine for CFunctions {
             device,
             tables,
             permutation,
+            tape,
             &mut record,
             volume,
             logical,
@@ -470,15 +468,9 @@ impl Engine for CFunctions {
         answer.map(|()| slice)
     }
 
-    fn close(
-        &self,
-        device: &mut [u8],
-        tables: &mut Tables,
-        tape: &mut Tape,
-        session: &mut Session,
-    ) -> Answer {
+    fn close(&self, device: &[u8], tables: &mut Tables, session: &mut Session) -> Answer {
         let mut record = Record::session(session);
-        let answer = close(device, tables, tape, &mut record);
+        let answer = close(device, tables, &mut record);
         *session = record.to_session();
         answer
     }

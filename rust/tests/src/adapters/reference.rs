@@ -226,30 +226,33 @@ impl Engine for Reference {
 
     fn release(
         &self,
-        device: &[u8],
+        device: &mut [u8],
         tables: &mut Tables,
         permutation: &[u32],
+        tape: &mut Tape,
         session: &mut Session,
         volume: usize,
         logical: usize,
     ) -> Result<usize, Refusal> {
         let (mut lent, tables) = (session_of(session), &mut tables_of(tables));
-        let freed = requests::release(device, tables, permutation, &mut lent, volume, logical);
+        let freed = with_tape(tape, |tape| {
+            requests::release(
+                device,
+                tables,
+                permutation,
+                tape,
+                &mut lent,
+                volume,
+                logical,
+            )
+        });
         hand_back(&lent, session);
         freed.map_err(same)
     }
 
-    fn close(
-        &self,
-        device: &mut [u8],
-        tables: &mut Tables,
-        tape: &mut Tape,
-        session: &mut Session,
-    ) -> Answer {
+    fn close(&self, device: &[u8], tables: &mut Tables, session: &mut Session) -> Answer {
         let (mut lent, tables) = (session_of(session), &mut tables_of(tables));
-        let answer = with_tape(tape, |tape| {
-            requests::close(device, tables, tape, &mut lent)
-        });
+        let answer = requests::close(device, tables, &mut lent);
         hand_back(&lent, session);
         answer.map_err(same)
     }

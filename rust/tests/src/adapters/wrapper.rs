@@ -216,28 +216,26 @@ impl Engine for Wrapper {
 
     fn release(
         &self,
-        device: &[u8],
+        device: &mut [u8],
         tables: &mut Tables,
         permutation: &[u32],
+        tape: &mut Tape,
         session: &mut Session,
         volume: usize,
         logical: usize,
     ) -> Result<usize, Refusal> {
         let (mut lent, tables) = (session_of(session), &mut tables_of(tables));
-        let freed = lent.release(device, tables, permutation, volume as u64, logical as u64);
+        let (volume, logical) = (volume as u64, logical as u64);
+        let freed = with_tape(tape, |tape| {
+            lent.release(device, tables, permutation, tape, volume, logical)
+        });
         hand_back(&lent, session);
         freed.map(|slice| slice as usize)
     }
 
-    fn close(
-        &self,
-        device: &mut [u8],
-        tables: &mut Tables,
-        tape: &mut Tape,
-        session: &mut Session,
-    ) -> Answer {
+    fn close(&self, device: &[u8], tables: &mut Tables, session: &mut Session) -> Answer {
         let (mut lent, tables) = (session_of(session), &mut tables_of(tables));
-        let answer = with_tape(tape, |tape| lent.close(device, tables, tape));
+        let answer = lent.close(device, tables);
         hand_back(&lent, session);
         answer
     }

@@ -2,7 +2,7 @@
 
 use std::thread;
 
-use hiwalgam::Refusal::{BadGeometry, DeviceLength, NotOpen, TableLength, TapeShort};
+use hiwalgam::Refusal::{BadGeometry, DeviceLength, NotOpen, TableLength};
 use hiwalgam_tests::adapters::CFunctions;
 use hiwalgam_tests::inputs::{Guarded, Random};
 use hiwalgam_tests::interface::{Engine, Tables, Tape, SERVED, UNMAPPED, VOLUMES};
@@ -46,19 +46,6 @@ fn limits_of_the_geometry() {
     let stick = Stick::random(&mut random, geometry(1024, 1, 4096), 1, 50);
     let mut state = State::new(&mut random, &stick, 0);
     open_and_check(&mut state, &stick, 0);
-}
-
-#[test]
-fn tape_of_a_close() {
-    let mut random = Random::seeded();
-    let stick = Stick::blank(&mut random, geometry(1024, 4, 4), 3);
-    let mut state = State::new(&mut random, &stick, 1);
-    open_and_check(&mut state, &stick, 1);
-    for (len, answer) in [(31, Err(TapeShort)), (32, SERVED)] {
-        state.new_tape(&mut random, len);
-        assert_eq!(run(Close, &mut state), answer);
-    }
-    assert_eq!(state.position, 32);
 }
 
 #[test]
@@ -137,15 +124,16 @@ fn stack_of_a_call() {
     }
 }
 
-/// What a call only reads may be the same memory: here the tape of a write is its text.
+/// What a call only reads may be the same memory: here the text of a write is the end of its tape.
 #[test]
 fn tape_and_text_may_overlap() {
     let mut random = Random::seeded();
     let stick = Stick::blank(&mut random, geometry(1024, 4, 4), 1);
     let mut state = State::new(&mut random, &stick, 0);
     open_and_check(&mut state, &stick, 0);
+    state.new_tape(&mut random, 1024 + 16);
     let mut apart = state.clone();
-    apart.tape = apart.text.clone();
+    apart.text = Guarded::new(&apart.tape[16..]);
     let written = apart.call(Write, &CFunctions);
     assert_eq!(written.answer, SERVED);
 
@@ -154,11 +142,11 @@ fn tape_and_text_may_overlap() {
         owners: &mut state.owners,
     };
     let mut tape = Tape {
-        bytes: &state.text,
+        bytes: &state.tape,
         position: 0,
     };
     let (device, order, session) = (&mut state.device, &state.permutation, &mut state.session);
-    let (target, text) = (state.target, &state.text);
+    let (target, text) = (state.target, &state.tape[16..]);
     let together = CFunctions.write(device, &mut tables, order, &mut tape, session, target, text);
     assert_eq!((together, tape.position), (written, apart.position));
     assert!(state.device == apart.device, "device");

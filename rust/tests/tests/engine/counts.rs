@@ -2,12 +2,13 @@
 //! session, and what ends there.
 
 use std::collections::{BTreeMap, BTreeSet};
+use std::fmt::Debug;
 
 use hiwalgam::Refusal::{
     self, AddressAbove, BadEntry, BadGeometry, HeaderGeometry, KeyCount, KeyLength, NotOpen,
     SliceTwice,
 };
-use hiwalgam_reference::geometry::{Geometry, IV};
+use hiwalgam_reference::geometry::Geometry;
 use hiwalgam_tests::inputs::{Guarded, Random};
 use hiwalgam_tests::interface::{Answer, Session, Written, SERVED, UNMAPPED, VOLUMES};
 use hiwalgam_tests::stick::{format_need, Stick, Volume};
@@ -16,6 +17,7 @@ use crate::faults::wrong_counts;
 use crate::formatting::{arguments_with, format, open};
 use crate::requests::MAX;
 use crate::scenarios::Model;
+use crate::start_places::{release_slice, write_text};
 use crate::state::Call::*;
 use crate::state::{at, geometry, open_and_check, run, run_places, State};
 
@@ -50,11 +52,6 @@ fn opened_at(random: &mut Random, s: usize, k: usize) -> (Stick, State) {
     let mut state = State::new(random, &stick, k);
     open_and_check(&mut state, &stick, k);
     (stick, state)
-}
-
-/// The tape bytes of a close.
-fn close_need(layout: Geometry, k: usize) -> usize {
-    IV * layout.map_blocks() * (k + 1)
 }
 
 // ---- formatting
@@ -360,15 +357,15 @@ fn several_entries_on_the_device() {
     );
 }
 
-/// The same entries in the lent table at a close, which does not look for a slice that is held twice.
-/// A read and a write of their blocks come to 12 before they come to the entry.
+/// The same entries in the lent table, at claims and releases in the same volume and in another, which do
+/// not look for a slice that is held twice. A read and a write of their own blocks come to 12 before they
+/// come to the entry, and a close looks at no entry.
 #[test]
 fn entries_in_the_lent_table() {
     let mut random = Random::seeded();
     let mut answers = BTreeMap::new();
     for k in [0, 1, 7, VOLUMES - 1] {
-        let (stick, mut base) = opened_at(&mut random, 3, k);
-        base.new_tape(&mut random, 1024);
+        let (stick, base) = opened_at(&mut random, 3, k);
         for volume in 0..VOLUMES {
             let count = stick.volumes[volume].count();
             for logical in logical_slices(count, 17) {
@@ -376,25 +373,46 @@ fn entries_in_the_lent_table() {
                     let mut state = base.clone();
                     state.maps[volume * 17 + logical] = entry;
                     check_past_the_end(&state, volume, logical);
-                    let expected = match entry {
-                        _ if volume > k || entry == UNMAPPED => SERVED,
-                        _ if logical >= count => Err(BadEntry),
-                        FREE | HELD => SERVED,
-                        _ => Err(BadEntry),
+                    assert_eq!(run(Close, &mut state.clone()), SERVED);
+                    let bad = match entry {
+                        UNMAPPED => false,
+                        FREE | HELD => logical >= count,
+                        _ => true,
                     };
-                    let place = (k, volume, count, logical, entry);
-                    assert_eq!(run(Close, &mut state), expected, "{place:?}");
-                    if expected != SERVED {
-                        // Refused, it can be tried again.
-                        state.maps[volume * 17 + logical] = UNMAPPED;
-                        assert_eq!(run(Close, &mut state), SERVED, "{place:?}");
+                    for asked in 0..=k {
+                        let expected = match bad && asked == volume {
+                            true => Err(BadEntry),
+                            false => SERVED,
+                        };
+                        let place = (k, volume, count, logical, entry, asked);
+                        check_map_calls(&mut random, &state, asked, expected, &place);
+                        let kind = kind(expected, logical < count);
+                        *answers.entry(kind).or_insert(0) += 1;
                     }
-                    *answers.entry(kind(expected, logical < count)).or_insert(0) += 1;
                 }
             }
         }
     }
     assert_eq!(answers.len(), 4, "{answers:?}");
+}
+
+/// A claim and a release of logical slice 0 of a volume.
+fn check_map_calls(
+    random: &mut Random,
+    base: &State,
+    volume: usize,
+    expected: Answer,
+    what: &dyn Debug,
+) {
+    let mut state = base.clone();
+    (state.target, state.logical) = (at(volume, 0), 0);
+    let released = release_slice(random, &mut state);
+    assert_eq!(released.answer, expected, "{what:?}");
+    let mut state = base.clone();
+    (state.target, state.maps[17 * volume]) = (at(volume, 0), UNMAPPED);
+    let written = write_text(random, &mut state);
+    assert_eq!(written.answer, expected, "{what:?}");
+    assert!(written.probes > 0 || expected != SERVED, "{what:?}");
 }
 
 /// A read, a find, a write and a release of a logical slice at or past the end of an open volume.
@@ -462,41 +480,39 @@ fn counts_that_are_not_allowed() {
     }
 }
 
-/// The count in the session decides where a volume ends, whatever its header says; a close judges the
-/// entries by it, and leaves the header's.
+/// The count in the session decides where a volume ends, whatever its header says; a claim and a release
+/// judge the entries by it. A close leaves it, and the next opening has the header's.
 #[test]
 fn other_counts_in_the_session() {
     let mut random = Random::seeded();
-    let (mut closed, mut refused) = (0, 0);
+    let (mut served, mut refused) = (0, 0);
     for k in [0, 3] {
-        let (stick, mut base) = opened_at(&mut random, 3, k);
-        base.new_tape(&mut random, 4096);
+        let (stick, base) = opened_at(&mut random, 3, k);
         for volume in 0..=k {
             // A claim in the volume's last logical slice.
             let mut claimed = base.clone();
             claimed.target = at(volume, stick.volumes[volume].count() * 3 - 1);
-            assert_eq!(run(Write, &mut claimed), SERVED);
+            assert_eq!(write_text(&mut random, &mut claimed).answer, SERVED);
             let last = claimed.target.address / 3;
             for count in 1..=17 {
                 let mut state = claimed.clone();
                 state.session.counts[volume] = count;
                 check_end(&mut state, volume, count * 3);
-                if last >= count {
-                    assert_eq!(run(Close, &mut state), Err(BadEntry), "N {count}");
-                    refused += 1;
-                    continue;
-                }
+                let expected = if last < count { SERVED } else { Err(BadEntry) };
+                check_map_calls(&mut random, &state, volume, expected, &count);
+                served += usize::from(expected == SERVED);
+                refused += usize::from(expected != SERVED);
+
                 assert_eq!(run(Close, &mut state), SERVED, "N {count}");
                 assert_eq!(state.session.counts[volume], count);
                 assert_eq!(run(Open, &mut state), SERVED);
                 assert_eq!(state.session.counts[..=k], stick.counts()[..=k]);
-                closed += 1;
             }
         }
     }
     assert!(
-        closed >= 10 && refused >= 10,
-        "{closed} closed, {refused} refused"
+        served >= 10 && refused >= 10,
+        "{served} served, {refused} refused"
     );
 }
 
@@ -504,18 +520,14 @@ fn other_counts_in_the_session() {
 
 /// Writes every block of the open volumes, in some order; the block after the last is 12.
 fn write_all(random: &mut Random, state: &mut State, model: &mut Model) {
-    let Session {
-        b, s, k, counts, ..
-    } = state.session;
+    let Session { s, k, counts, .. } = state.session;
     let volumes = counts[..=k].iter().enumerate();
     let blocks =
         volumes.flat_map(|(volume, &n)| (0..n * s).map(move |address| at(volume, address)));
     let blocks: Vec<_> = blocks.collect();
     for i in random.permutation(blocks.len()) {
         state.target = blocks[i as usize];
-        state.text = random.bytes(b);
-        state.new_tape(random, b);
-        let (answer, _) = run_places(Write, state);
+        let answer = write_text(random, state);
         assert_eq!(answer.answer, SERVED, "{:?}", state.target);
         model.served(Write, state, answer);
     }
@@ -545,7 +557,6 @@ fn volumes_that_fill_the_stick() {
 
         for keys in [k, k, 0] {
             let held = state.session.counts;
-            state.new_tape(&mut random, close_need(layout, state.session.k));
             assert_eq!(run(Close, &mut state), SERVED);
             assert_eq!((state.session.open, state.session.counts), (0, held));
             state.key = Guarded::new(&stick.volumes[keys].key);
@@ -572,13 +583,13 @@ fn volumes_that_are_larger_than_the_stick() {
         for (volume, &count) in counts.iter().enumerate() {
             for logical in 0..count + 1 {
                 state.target = at(volume, logical * s);
-                state.new_tape(&mut random, 1024);
                 let expected = match logical {
                     _ if logical == count => Err(AddressAbove),
                     _ if claims == p => Err(Refusal::NoFreeSlice),
                     _ => SERVED,
                 };
-                assert_eq!(run(Write, &mut state), expected, "{:?}", state.target);
+                let answer = write_text(&mut random, &mut state).answer;
+                assert_eq!(answer, expected, "{:?}", state.target);
                 claims += usize::from(expected == SERVED);
             }
         }

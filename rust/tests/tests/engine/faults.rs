@@ -162,6 +162,23 @@ impl Faults {
         });
     }
 
+    /// 9 for the map block that holds the entry at an index, which is in the volume's first: no slice at
+    /// the entry, and at the first and the last of the block; at and past N a slice too.
+    fn map_block(&mut self, base: &State, index: usize) {
+        let Session { b, p, counts, .. } = base.session;
+        let (row, n) = (index / p * p, counts[index / p]);
+        let end = p.min((b - IV) / 4);
+        assert!(index - row < end);
+        for index in [index, row, row + end - 1] {
+            self.entry(base, index);
+        }
+        for logical in [n, end - 1].into_iter().filter(|at| (n..end).contains(at)) {
+            self.add(BadEntry, "slice", &[0, 2], move |state, slice| {
+                set(&mut state.maps, row + logical, slice as u32);
+            });
+        }
+    }
+
     /// 21.
     fn tape(&mut self, base: &State, need: usize) {
         let len = base.tape.len();
@@ -416,8 +433,8 @@ impl Faults {
         faults.add(WrongLength, "text", &wrong_lengths(b), |state, len| {
             state.text = state.text.resized(len);
         });
-        faults.entry(base, base.entry());
         if claim {
+            faults.map_block(base, base.entry());
             // A place before the start is not looked at.
             let places = &[0, 1, 2][start..];
             faults.add(BadPermutation, "place", places, move |state, place| {
@@ -428,8 +445,11 @@ impl Faults {
             faults.add(NoFreeSlice, "all held", &owners, |state, owner| {
                 state.owners.fill(owner as u8);
             });
+            faults.tape(base, b + IV);
+        } else {
+            faults.entry(base, base.entry());
+            faults.tape(base, IV);
         }
-        faults.tape(base, if claim { b } else { IV });
         for fault in &mut faults.0 {
             fault.probes = match fault.name {
                 "place" => fault.value + 1 - start,
@@ -447,31 +467,17 @@ impl Faults {
         faults.lent(base);
         faults.whole_permutation(base, p);
         faults.logical_slice(base);
-        faults.entry(base, index);
+        faults.map_block(base, index);
         faults.add(SliceUnmapped, "unmapped", &[index], |state, index| {
             set(&mut state.maps, index, UNMAPPED);
         });
+        faults.tape(base, IV);
         faults
     }
 
-    fn of_close(base: &State, layout: Geometry) -> Self {
-        let p = layout.p;
+    fn of_close(base: &State) -> Self {
         let mut faults = Faults::default();
         faults.lent(base);
-        for index in [0, p - 1, p, 2 * p - 1] {
-            faults.entry(base, index);
-        }
-        // At and past N a slice too.
-        for (volume, &n) in base.session.counts[..2].iter().enumerate() {
-            for index in [n, p - 1].map(|logical| volume * p + logical.max(n)) {
-                if index < (volume + 1) * p {
-                    faults.add(BadEntry, "slice", &[0, 2], move |state, slice| {
-                        set(&mut state.maps, index, slice as u32);
-                    });
-                }
-            }
-        }
-        faults.tape(base, 2 * IV * layout.map_blocks());
         faults
     }
 }
@@ -570,7 +576,7 @@ pub fn with_faults(call: Call, mut test: impl FnMut(&mut Random, &State, &Faults
         open_and_check(&mut base, stick, 1);
         assert_eq!(base.session.start_place, 2);
         if call == Close {
-            let faults = Faults::of_close(&base, stick.geometry);
+            let faults = Faults::of_close(&base);
             return test(random, &base, &faults);
         }
         if call == Release {

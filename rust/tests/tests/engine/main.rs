@@ -8,6 +8,7 @@ mod counts;
 mod faults;
 mod finding;
 mod formatting;
+mod map_blocks;
 mod opening;
 mod records;
 mod refusals;

@@ -8,8 +8,9 @@ use hiwalgam_tests::interface::{Answer, SERVED, VOLUMES};
 use hiwalgam_tests::stick::{Stick, Volume};
 
 use crate::scenarios::Model;
+use crate::start_places::write_text;
 use crate::state::Call::*;
-use crate::state::{at, geometry, open_and_check, run, run_places, stick_a, State};
+use crate::state::{at, geometry, open_and_check, run, stick_a, State};
 
 #[test]
 fn opens_at_every_volume() {
@@ -75,8 +76,7 @@ fn volumes_above_lose_slices() {
     open_and_check(&mut state, &stick, 1);
     for claim in 0..18 {
         state.target = at(claim % 2, claim / 2 * 3 + claim % 3);
-        state.new_tape(&mut random, 1024);
-        let (answer, _) = run_places(Write, &mut state);
+        let answer = write_text(&mut random, &mut state);
         // Each claim takes the place behind that of the claim before, and at last there is none.
         let expected = match claim {
             0..17 => (SERVED, 1),

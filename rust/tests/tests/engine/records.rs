@@ -64,9 +64,9 @@ impl Records {
             }
             Release => {
                 let (volume, logical, slice) = (target.volume, state.logical, &mut self.slice);
-                c_functions::release(device, tables, order, session, volume, logical, slice)
+                c_functions::release(device, tables, order, tape, session, volume, logical, slice)
             }
-            Close => c_functions::close(device, tables, tape, session),
+            Close => c_functions::close(device, tables, session),
         };
         state.position = tape.position;
         answer

@@ -1,6 +1,6 @@
 //! Each refusal, and the order of any two.
 
-use hiwalgam::Refusal::{BadEntry, BadPermutation};
+use hiwalgam::Refusal::BadPermutation;
 use hiwalgam_reference::geometry::Geometry;
 use hiwalgam_tests::interface::{Written, SERVED, UNMAPPED};
 
@@ -122,17 +122,22 @@ fn no_refusal() {
                 assert!(call != Find || state.found == state.session.b);
             }
         }
-        // Read, write and release look at the asked entry alone, a release and a rewrite at no owner, and
-        // a rewrite at no place.
+        // Read and rewrite look at the asked entry alone, a claim and a release at no entry outside of its
+        // map block, a release and a rewrite at no owner, a rewrite at no place, and a close at nothing.
         base.target = at(1, 0);
+        base.owners.fill(0);
+        let mut other = base.clone();
+        other.maps[..p].fill(p as u32);
+        other.maps[2 * p..].fill(p as u32);
+        assert_eq!(run(Release, &mut other.clone()), SERVED);
+        other.target = at(1, s);
+        assert_eq!(run(Write, &mut other), SERVED);
+
         base.maps.fill(p as u32);
         base.maps[p] = 3;
-        base.owners.fill(0);
-        assert_eq!(run(Release, &mut base.clone()), SERVED);
         base.permutation.fill(UNMAPPED);
-        for call in [Read, Find, Write] {
+        for call in [Read, Find, Write, Close] {
             assert_eq!(run(call, &mut base), SERVED);
         }
-        assert_eq!(run(Close, &mut base), Err(BadEntry));
     });
 }

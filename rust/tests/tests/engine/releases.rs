@@ -1,6 +1,8 @@
 //! Releases: slices that are given back, what is claimed of them, and what stays on the device.
 
-use hiwalgam::Refusal::{AddressAbove, BadEntry, BadPermutation, NoFreeSlice, SliceUnmapped};
+use hiwalgam::Refusal::{
+    AddressAbove, BadEntry, BadPermutation, NoFreeSlice, SliceUnmapped, TapeShort,
+};
 use hiwalgam_reference::ctr;
 use hiwalgam_reference::geometry::{Geometry, IV};
 use hiwalgam_tests::inputs::{Guarded, Random};
@@ -10,7 +12,7 @@ use hiwalgam_tests::stick::Stick;
 use crate::scenarios::Model;
 use crate::start_places::{
     aim, aim_at, any_write, claim, claimed, freed, opened, opened_with_free, refused, release,
-    stick_with_free, targets, write, Reached, COUNT,
+    release_slice, stick_with_free, targets, write, write_text, Reached, COUNT,
 };
 use crate::state::Call::*;
 use crate::state::{at, geometry, open_and_check, run, run_places, State};
@@ -43,11 +45,10 @@ impl Followed {
     /// Writes some block of the logical slice with the entry at an index.
     fn write_at(&mut self, random: &mut Random, index: usize) -> Written {
         aim_at(random, &mut self.state, index);
-        self.state.text = random.bytes(self.state.session.b);
-        self.state.new_tape(random, self.state.session.b);
-        let (written, _) = run_places(Write, &mut self.state);
+        let written = write_text(random, &mut self.state);
         if written.answer == SERVED {
             self.model.served(Write, &self.state, written);
+            self.model.check_dropped(random, &self.state);
         }
         written
     }
@@ -55,24 +56,28 @@ impl Followed {
     /// Releases the logical slice with the entry at an index.
     fn release_at(&mut self, random: &mut Random, index: usize) -> Written {
         aim_at(random, &mut self.state, index);
-        let (released, _) = run_places(Release, &mut self.state);
+        let released = release_slice(random, &mut self.state);
         assert_eq!(released.answer, SERVED);
         self.model.served(Release, &self.state, released);
+        self.model.check_dropped(random, &self.state);
         released
     }
 
     /// Closes, opens again with another permutation, and reads everything. The tables are the same.
     fn close_and_open(&mut self, random: &mut Random) {
-        let Session { b, s, p, k, .. } = self.state.session;
         let state = &mut self.state;
         let (maps, owners) = (state.maps.clone(), state.owners.clone());
-        state.new_tape(random, IV * geometry(b, s, p).map_blocks() * (k + 1));
         assert_eq!(run(Close, state), SERVED);
-        self.model.served(Close, state, Written::of(SERVED));
-        state.permutation = Guarded::new(&random.permutation(p));
+        state.permutation = Guarded::new(&random.permutation(state.session.p));
         assert_eq!(run(Open, state), SERVED);
         assert!(state.maps == maps && state.owners == owners, "tables");
         self.model.check_all(state);
+    }
+
+    /// The bytes of all slices, which stand behind the headers.
+    fn slices(&self) -> &[u8] {
+        let Session { b, s, p, .. } = self.state.session;
+        &self.state.device[geometry(b, s, p).slice(0).start..]
     }
 }
 
@@ -139,7 +144,7 @@ fn filled_released_and_filled_again() {
         followed.model.check_all(&mut followed.state);
 
         // The slices at the places 0, 2, .. in some order.
-        let device = followed.state.device.clone();
+        let slices = followed.slices().to_vec();
         let places: Vec<usize> = (0..p).step_by(2).collect();
         let mut lowest = p;
         for i in random.permutation(places.len()) {
@@ -150,7 +155,7 @@ fn filled_released_and_filled_again() {
             lowest = lowest.min(place);
             assert_eq!(followed.state.session.start_place, lowest);
         }
-        assert!(followed.state.device == device, "a byte of the device");
+        assert!(followed.slices() == slices, "a byte of a slice");
         followed.model.check_all(&mut followed.state);
 
         looked += fill(&mut random, &mut followed, &places);
@@ -206,7 +211,7 @@ fn all_slices_released() {
         assert!(followed.state.maps.iter().all(|&entry| entry == UNMAPPED));
         assert!(followed.state.owners.iter().all(|&owner| owner == 0));
         assert_eq!(followed.state.session.start_place, 0);
-        assert!(followed.state.device[..] == stick.device, "the device");
+        assert!(stick.device.ends_with(followed.slices()), "the slices");
         followed.close_and_open(&mut random);
         assert_eq!(followed.state.session.start_place, 0);
         let index = random.pick(&unmapped(&followed.state));
@@ -221,8 +226,8 @@ fn all_slices_released() {
 
 // ---- the bytes of a slice
 
-/// A release leaves every byte of the device. A session that is not closed after it is opened again with
-/// the slices and the texts that it had.
+/// A release leaves the bytes of its slice: with the map block that was there before it, the device opens
+/// again with the slices and the texts that it had.
 #[test]
 fn bytes_stay_on_the_device() {
     let mut random = Random::seeded();
@@ -232,11 +237,16 @@ fn bytes_stay_on_the_device() {
         for _ in 0..1 + random.below(p) {
             let index = random.pick(&targets(&followed.state, true));
             followed.release_at(&mut random, index);
-            assert!(followed.state.device[..] == stick.device, "the device");
+            assert!(stick.device.ends_with(followed.slices()), "the slices");
         }
         followed.model.check_all(&mut followed.state);
 
         let mut state = followed.state;
+        for i in 0..COUNT {
+            let maps = stick.geometry.maps(i);
+            state.device[maps.clone()].copy_from_slice(&stick.device[maps]);
+        }
+        assert!(state.device[..] == stick.device, "the device");
         state.permutation = Guarded::new(&random.permutation(p));
         open_and_check(&mut state, &stick, COUNT - 1);
         Model::new(&stick).check_all(&mut state);
@@ -278,9 +288,7 @@ fn old_bytes_do_not_show() {
             let rows: Vec<usize> = rows.filter(|index| index / p == volume).collect();
             let index = random.pick(&rows);
             aim_at(&mut random, &mut state, index);
-            state.text = random.bytes(b);
-            state.new_tape(&mut random, b);
-            let (written, _) = run_places(Write, &mut state);
+            let written = write_text(&mut random, &mut state);
             assert_eq!(written, claimed(slice as u32, probes));
             let (text, offset) = (state.text.clone(), state.target.address % s);
             let bytes = stored(&stick, &state, volume, offset);
@@ -322,7 +330,7 @@ fn each_slice_and_start_place() {
                     let index = entry_of(&state, slice);
                     aim_at(&mut random, &mut state, index);
                     let place = order.iter().position(|&named| named == slice).unwrap();
-                    assert_eq!(run_places(Release, &mut state).0, freed(slice));
+                    assert_eq!(release_slice(&mut random, &mut state), freed(slice));
                     assert_eq!(state.session.start_place, start.min(place));
                 }
             }
@@ -348,7 +356,11 @@ fn another_permutation() {
         state.permutation = Guarded::new(&other);
         let index = entry_of(&state, 3);
         aim_at(&mut random, &mut state, index);
-        assert_eq!(run_places(Release, &mut state).0, freed(3), "{other:?}");
+        assert_eq!(
+            release_slice(&mut random, &mut state),
+            freed(3),
+            "{other:?}"
+        );
         assert_eq!(state.session.start_place, start, "{other:?}");
         state.permutation = Guarded::new(&order);
         assert_eq!(claim(&mut random, &mut state), answer, "{other:?}");
@@ -380,13 +392,13 @@ fn the_bound_on_the_counts_is_reached() {
             state.permutation = Guarded::new(&with_slice_at(&mut random, p, slice, 0));
             let index = entry_of(&state, slice);
             aim_at(&mut random, &mut state, index);
-            assert_eq!(run_places(Release, &mut state).0, freed(slice));
+            assert_eq!(release_slice(&mut random, &mut state), freed(slice));
         }
     }
 }
 
 /// A release with some permutation, of some logical slice. Some permutations are wrong, some slices are
-/// unmapped, and some are past the end.
+/// unmapped, some are past the end, and some tapes are too short.
 fn any_release(random: &mut Random, state: &mut State) -> Written {
     let p = state.session.p;
     state.permutation = Guarded::new(&random.permutation(p));
@@ -399,6 +411,8 @@ fn any_release(random: &mut Random, state: &mut State) -> Written {
     if random.once_in(8) {
         state.logical += p;
     }
+    let len = random.pick(&[IV, IV, IV, IV, IV, IV, IV - 1]);
+    state.new_tape(random, len);
     run_places(Release, state).0
 }
 
@@ -408,7 +422,7 @@ fn any_release(random: &mut Random, state: &mut State) -> Written {
 fn counts_of_a_session() {
     let mut random = Random::seeded();
     let mut reached = Reached::default();
-    let (mut served, mut refusals) = (0, [0; 3]);
+    let (mut served, mut refusals) = (0, [0; 4]);
     for p in [1, 2, 4, 17, 40] {
         for _ in 0..25 {
             let count = random.below(p + 1);
@@ -427,6 +441,7 @@ fn counts_of_a_session() {
                         Err(BadPermutation) => refusals[0] += 1,
                         Err(AddressAbove) => refusals[1] += 1,
                         Err(SliceUnmapped) => refusals[2] += 1,
+                        Err(TapeShort) => refusals[3] += 1,
                         Err(refusal) => panic!("{refusal:?}"),
                     }
                 } else {
@@ -440,9 +455,8 @@ fn counts_of_a_session() {
             served += releases;
         }
     }
-    let [permutations, addresses, unmapped] = refusals;
     let Reached { claims, full, .. } = reached;
-    let times = [claims, full, served, permutations, addresses, unmapped];
+    let times = [&[claims, full, served], &refusals[..]].concat();
     assert!(times.iter().all(|&times| times >= 20), "{times:?}");
 }
 
@@ -464,7 +478,7 @@ fn any_owner() {
                 owners[slice] = 0;
                 let index = entry_of(&state, slice as u32);
                 aim_at(&mut random, &mut state, index);
-                let (released, _) = run_places(Release, &mut state);
+                let released = release_slice(&mut random, &mut state);
                 assert_eq!(released, freed(slice as u32), "owner {owner}");
                 assert!(state.owners[..] == owners, "owner {owner}");
             }
@@ -472,8 +486,9 @@ fn any_owner() {
     }
 }
 
-/// A release looks at the asked entry alone: the same slice in other entries, and entries that are no
-/// slice, stay. A slice that stands in two entries is released twice.
+/// The same slice in other entries, and entries of other volumes that are no slice, stay. A slice that
+/// stands in two entries is released twice. Once an entry of the volume is no slice, each release of the
+/// volume is refused, also that of an unmapped slice.
 #[test]
 fn other_entries() {
     let mut random = Random::seeded();
@@ -481,30 +496,35 @@ fn other_entries() {
     let base = opened_with_free(&mut random, 17, &[], &order);
     for _ in 0..200 {
         let mut state = base.clone();
-        let slice = random.below(17) as u32;
-        let indices = random.permutation(COUNT * 17);
-        let [first, second, third] = [0, 1, 2].map(|i| indices[i] as usize);
-        for entry in state.maps.iter_mut() {
+        let (slice, volume) = (random.below(17) as u32, random.below(COUNT));
+        let [first, second, third] = [0, 1, 2].map(|i| volume * 17 + random.below(5) * 3 + i);
+        for (index, entry) in state.maps.iter_mut().enumerate() {
             let any = random.word() as u32;
-            *entry = random.pick(&[17, slice, UNMAPPED, UNMAPPED - 1, any]);
+            let others = [17, slice, UNMAPPED, UNMAPPED - 1, any];
+            let own = &[slice, UNMAPPED, random.below(17) as u32];
+            *entry = random.pick(if index / 17 == volume { own } else { &others });
         }
-        state.maps[first] = slice;
-        state.maps[second] = slice;
-        state.maps[third] = 17;
-        for (index, answer) in [
-            (first, freed(slice)),
-            (first, Written::of(Err(SliceUnmapped))),
-            (third, Written::of(Err(BadEntry))),
-            (second, freed(slice)),
-            (second, Written::of(Err(SliceUnmapped))),
-        ] {
-            aim_at(&mut random, &mut state, index);
-            assert_eq!(run_places(Release, &mut state).0, answer);
+        (state.maps[first], state.maps[second]) = (slice, slice);
+        state.maps[third] = random.pick(&[slice, UNMAPPED]);
+        let (gone, bad) = (Written::of(Err(SliceUnmapped)), Written::of(Err(BadEntry)));
+        let mut release_at = |state: &mut State, index: usize| {
+            aim_at(&mut random, state, index);
+            release_slice(&mut random, state)
+        };
+        assert_eq!(release_at(&mut state, first), freed(slice));
+        assert_eq!(release_at(&mut state, first), gone);
+        let entry = std::mem::replace(&mut state.maps[third], 17);
+        for index in [first, second, third] {
+            assert_eq!(release_at(&mut state, index), bad);
         }
+        state.maps[third] = entry;
+        assert_eq!(release_at(&mut state, second), freed(slice));
+        assert_eq!(release_at(&mut state, second), gone);
     }
 }
 
-/// An entry that stands past its volume's end is not looked at, also where it is a slice: 12.
+/// A logical slice past its volume's end is 12, also where its entry is a slice; that entry is bad for the
+/// logical slices before the end.
 #[test]
 fn entries_past_the_end() {
     let mut random = Random::seeded();
@@ -519,12 +539,17 @@ fn entries_past_the_end() {
         for logical in 0..4 * counts.len() {
             let mut state = base.clone();
             (state.target.volume, state.logical) = (volume, logical);
-            let (answer, _) = run_places(Release, &mut state);
-            if logical < count {
-                assert_eq!(answer, freed(base.maps[4 * volume + logical]));
-            } else {
+            let mut answer = release_slice(&mut random, &mut state);
+            if logical >= count {
                 assert_eq!(answer, Written::of(Err(AddressAbove)));
+                continue;
             }
+            if count < 4 {
+                assert_eq!(answer, Written::of(Err(BadEntry)));
+                state.maps[4 * volume + count..4 * (volume + 1)].fill(UNMAPPED);
+                answer = release_slice(&mut random, &mut state);
+            }
+            assert_eq!(answer, freed(base.maps[4 * volume + logical]));
         }
     }
 }
@@ -556,11 +581,12 @@ fn wrong_at_the_last_place() {
             aim_at(&mut random, &mut state, index);
             for permutation in &wrong {
                 state.permutation = Guarded::new(permutation);
-                let (answer, _) = run_places(Release, &mut state);
+                let answer = release_slice(&mut random, &mut state);
                 assert_eq!(answer, Written::of(Err(BadPermutation)), "P {p}");
             }
             state.permutation = Guarded::new(&order);
-            assert_eq!(run_places(Release, &mut state).0, freed(slice), "P {p}");
+            let answer = release_slice(&mut random, &mut state);
+            assert_eq!(answer, freed(slice), "P {p}");
         }
     }
 }

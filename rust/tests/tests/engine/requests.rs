@@ -1,6 +1,6 @@
 //! Requests from the generator.
 
-use hiwalgam_reference::geometry::Geometry;
+use hiwalgam_reference::geometry::{Geometry, IV};
 use hiwalgam_tests::inputs::{Guarded, Random};
 use hiwalgam_tests::interface::{Session, KEYS, UNMAPPED, VOLUMES};
 use hiwalgam_tests::stick::format_need;
@@ -54,15 +54,17 @@ pub fn request(random: &mut Random, state: &mut State, order: &[u32]) -> Call {
     if wrong(random) {
         state.permutation = state.permutation.resized(random.pick(&[0, p - 1, p + 1]));
     }
-    if state.position > state.tape.len() || state.tape.len() - state.position < b {
+    let claim = b + IV;
+    if state.position > state.tape.len() || state.tape.len() - state.position < claim {
         let len = 3 * b + random.below(40);
         state.new_tape(random, len);
         state.position = random.pick(&[0, 0, 7]);
     }
     if random.once_in(15) {
         let len = state.tape.len();
-        let positions = [len - b, len - b + 1, len - 16, len - 15, len, len + 1, MAX];
-        state.position = random.pick(&positions);
+        let needs = [claim, claim - 1, b, b - 1, IV, IV - 1, 0].map(|need| len - need);
+        let positions = needs.into_iter().chain([len + 1, MAX]);
+        state.position = random.pick(&positions.collect::<Vec<usize>>());
     }
     random.pick(&[
         Write, Write, Write, Write, Write, Read, Read, Read, Find, Release, Release,

@@ -1,11 +1,11 @@
 //! Random lists of requests on random sticks, judged by what an array of blocks would answer.
 
-use std::collections::{HashMap, HashSet};
+use std::collections::HashMap;
 
-use hiwalgam::Refusal::{NotOpen, TapeShort};
-use hiwalgam_reference::geometry::{Geometry, IV};
+use hiwalgam::Refusal::NotOpen;
+use hiwalgam_reference::geometry::Geometry;
 use hiwalgam_tests::inputs::{Guarded, Random};
-use hiwalgam_tests::interface::{Session, Target, Written, SERVED, UNMAPPED, VOLUMES};
+use hiwalgam_tests::interface::{Engine, Session, Target, Written, SERVED, UNMAPPED, VOLUMES};
 use hiwalgam_tests::stick::Stick;
 
 use crate::requests::{request, spoil};
@@ -16,13 +16,7 @@ use crate::state::{at, geometry, open_and_check, run, run_places, State, CALLS, 
 /// they hold.
 pub struct Model {
     texts: HashMap<Target, Vec<u8>>,
-    /// Blocks of slices that were released in a session that was not closed: what they hold depends on
-    /// the claims that came after.
-    unknown: HashSet<Target>,
     slices: HashMap<(usize, usize), usize>,
-    /// The slices by the maps on the stick, and the logical slices that were claimed or released since.
-    stored: HashMap<(usize, usize), usize>,
-    changed: HashSet<(usize, usize)>,
 }
 
 impl Model {
@@ -37,40 +31,14 @@ impl Model {
         }
         Model {
             texts: stick.texts.clone(),
-            unknown: HashSet::new(),
-            stored: slices.clone(),
             slices,
-            changed: HashSet::new(),
         }
     }
 
     /// Forgets the volumes above k, which can lose slices to claims.
     fn opened(&mut self, k: usize) {
         self.texts.retain(|target, _| target.volume <= k);
-        self.unknown.retain(|target| target.volume <= k);
         self.slices.retain(|&(volume, _), _| volume <= k);
-        self.stored = self.slices.clone();
-    }
-
-    /// Makes the blocks of a logical slice zeros.
-    fn clear(&mut self, (volume, logical): (usize, usize), s: usize) {
-        for address in logical * s..(logical + 1) * s {
-            self.texts.remove(&at(volume, address));
-            self.unknown.remove(&at(volume, address));
-        }
-    }
-
-    /// A session ended without a close: its claims and releases are lost.
-    fn lost(&mut self, s: usize) {
-        for place in std::mem::take(&mut self.changed) {
-            self.clear(place, s);
-            if self.stored.contains_key(&place) {
-                let blocks = place.1 * s..(place.1 + 1) * s;
-                let blocks = blocks.map(|address| at(place.0, address));
-                self.unknown.extend(blocks);
-            }
-        }
-        self.slices = self.stored.clone();
     }
 
     fn text(&self, target: Target, b: usize) -> Vec<u8> {
@@ -83,7 +51,6 @@ impl Model {
         let place = (state.target.volume, state.target.address / s);
         let held = self.slices.get(&place);
         match call {
-            Read if self.unknown.contains(&state.target) => {}
             Read => assert!(state.buf[..] == self.text(state.target, b), "read"),
             Write if answer.claimed == 1 => {
                 assert_eq!(held, None, "claimed");
@@ -94,46 +61,63 @@ impl Model {
                 let first = order.skip(start).position(|slice| !held.contains(&slice));
                 assert_eq!(first, Some(answer.probes - 1), "first free place");
                 self.slices.insert(place, answer.slice);
-                self.changed.insert(place);
             }
             Write => assert_eq!(held, Some(&answer.slice), "rewritten"),
             Release => {
-                let place = (state.target.volume, state.logical);
-                assert_eq!(self.slices.remove(&place), Some(answer.slice), "released");
-                self.changed.insert(place);
-                self.clear(place, s);
+                let (volume, logical) = (state.target.volume, state.logical);
+                let held = self.slices.remove(&(volume, logical));
+                assert_eq!(held, Some(answer.slice), "released");
+                for address in logical * s..(logical + 1) * s {
+                    self.texts.remove(&at(volume, address));
+                }
             }
-            Close => {
-                self.stored = self.slices.clone();
-                self.changed.clear();
-            }
-            Format | Shuffle | Open | Find => {}
+            Format | Shuffle | Open | Find | Close => {}
         }
         if call == Write {
             self.texts.insert(state.target, state.text.to_vec());
-            self.unknown.remove(&state.target);
         }
     }
 
     /// Reads every block of the open volumes with every implementation.
     pub fn check_all(&self, state: &mut State) {
+        for engine in ENGINES {
+            self.check_by(state, engine);
+        }
+    }
+
+    /// Reads every block of the open volumes.
+    fn check_by(&self, state: &mut State, engine: &dyn Engine) {
         let Session {
             b, s, k, counts, ..
         } = state.session;
+        let zeros = vec![0; b];
         for (volume, &count) in counts[..=k].iter().enumerate() {
             for address in 0..count * s {
                 state.target = at(volume, address);
-                if self.unknown.contains(&state.target) {
-                    continue;
-                }
-                let text = self.text(state.target, b);
-                for engine in ENGINES {
-                    state.buf = Guarded::blank(b);
-                    assert_eq!(state.call(Read, engine).answer, SERVED);
-                    assert!(state.buf[..] == text, "{engine:?}, {:?}", state.target);
-                }
+                let text = self.texts.get(&state.target).unwrap_or(&zeros);
+                state.buf = Guarded::blank(b);
+                assert_eq!(state.call(Read, engine).answer, SERVED);
+                assert!(state.buf[..] == **text, "{engine:?}, {:?}", state.target);
             }
         }
+    }
+
+    /// A session that is dropped here loses nothing. A copy of the device opens again with the same key
+    /// and some permutation, to the tables that are held, and the volumes are the arrays of the model.
+    pub fn check_dropped(&self, random: &mut Random, held: &State) {
+        let mut state = held.clone();
+        state.forget(random);
+        state.permutation = Guarded::new(&random.permutation(held.session.p));
+        assert_eq!(run(Open, &mut state), SERVED, "an opening after a drop");
+        let (start_place, session) = (state.session.start_place, held.session.clone());
+        let session = Session {
+            start_place,
+            ..session
+        };
+        assert_eq!(state.session, session, "the session after a drop");
+        assert!(state.maps == held.maps, "the maps after a drop");
+        assert!(state.owners == held.owners, "the owners after a drop");
+        self.check_by(&mut state, random.pick(&ENGINES));
     }
 }
 
@@ -160,9 +144,13 @@ fn random_stick(random: &mut Random, geometry: Geometry) -> (Stick, usize) {
 /// Runs a request and, on a copy, sometimes a call with something wrong.
 fn play(random: &mut Random, state: &mut State, model: &mut Model, order: &[u32]) {
     let call = request(random, state, order);
-    let (answer, _) = run_places(call, state);
+    let (answer, places) = run_places(call, state);
     if answer.answer == SERVED {
         model.served(call, state, answer);
+    }
+    // Where the call has written nothing, the device is the one that was checked before.
+    if !places.is_empty() {
+        model.check_dropped(random, state);
     }
     if random.once_in(3) {
         let mut spoiled = state.clone();
@@ -173,17 +161,10 @@ fn play(random: &mut Random, state: &mut State, model: &mut Model, order: &[u32]
     }
 }
 
-/// Closes, with one byte of the tape too few and then with enough, and tries what is refused then.
+/// Closes, and tries what is refused then. The device still opens to what was held.
 fn close(random: &mut Random, state: &mut State, model: &mut Model, order: &[u32]) {
-    let Session { b, s, p, k, .. } = state.session;
-    let need = IV * geometry(b, s, p).map_blocks() * (k + 1);
-    let unused = random.below(20);
-    state.new_tape(random, need + unused);
-    state.position = unused + 1;
-    assert_eq!(run(Close, state), Err(TapeShort));
-    state.position = unused;
+    let mut held = state.clone();
     assert_eq!(run(Close, state), SERVED);
-    model.served(Close, state, Written::of(SERVED));
     for _ in 0..3 {
         let call = request(random, state, order);
         let answer = if call == Find { SERVED } else { Err(NotOpen) };
@@ -191,6 +172,8 @@ fn close(random: &mut Random, state: &mut State, model: &mut Model, order: &[u32
         assert!(call != Find || state.found == 0);
     }
     assert_eq!(run(Close, state), Err(NotOpen));
+    held.device = state.device.clone();
+    model.check_dropped(random, &held);
 }
 
 /// Opens a random stick, plays requests, closes or not, and opens again with another permutation.
@@ -205,9 +188,7 @@ fn scenario(random: &mut Random, geometry: Geometry, requests: usize) {
         for _ in 0..requests {
             play(random, &mut state, &mut model, &order);
         }
-        if random.once_in(4) {
-            model.lost(geometry.s);
-        } else {
+        if random.once_in(2) {
             close(random, &mut state, &mut model, &order);
         }
         // The stick opens again, with the same volumes or fewer.

@@ -4,16 +4,15 @@
 use std::collections::{BTreeMap, BTreeSet};
 
 use hiwalgam::Refusal::{BadGeometry, TableLength, TapeShort};
-use hiwalgam_reference::geometry::IV;
 use hiwalgam_tests::adapters::c_functions::{self, Record};
 use hiwalgam_tests::inputs::{Guarded, Random};
 use hiwalgam_tests::interface::{Answer, Session, Tape, SERVED};
 
 use crate::formatting::{arguments_with, format, open};
 use crate::requests::{spoil, EDGES, MAX};
-use crate::start_places::{aim_at, claimed, freed};
+use crate::start_places::{aim_at, claimed, freed, release_slice, write_text};
 use crate::state::Call::*;
-use crate::state::{at, geometry, run, run_places, State, ENGINES};
+use crate::state::{at, geometry, run, State, ENGINES};
 
 /// Numbers of slices: few, around those at which a volume has one map block more, around a power of two,
 /// and the most.
@@ -492,17 +491,16 @@ fn sessions_with_a_shuffled_permutation() {
         for (place, &slice) in order.iter().enumerate().take(20) {
             let index = random.below(2) * p + place;
             aim_at(&mut random, &mut state, index);
-            state.text = random.bytes(b);
-            state.new_tape(&mut random, b);
-            assert_eq!(run_places(Write, &mut state).0, claimed(slice, 1), "P {p}");
+            let written = write_text(&mut random, &mut state);
+            assert_eq!(written, claimed(slice, 1), "P {p}");
         }
         let index = state.released_entry();
         let slice = state.maps[index];
-        assert_eq!(run_places(Release, &mut state).0, freed(slice), "P {p}");
+        let released = release_slice(&mut random, &mut state);
+        assert_eq!(released, freed(slice), "P {p}");
         assert_eq!(state.session.start_place, p.min(20) - 1, "P {p}");
 
         // The next session has an order of its own.
-        state.new_tape(&mut random, IV * layout.map_blocks() * 2);
         assert_eq!(run(Close, &mut state), SERVED, "P {p}");
         state.tape = random.bytes(4 * p);
         state.position = 0;

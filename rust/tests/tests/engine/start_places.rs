@@ -67,8 +67,13 @@ pub fn aim_at(random: &mut Random, state: &mut State, index: usize) {
 /// A write of some text with a tape that is long enough.
 pub fn write(random: &mut Random, state: &mut State, mapped: bool) -> Written {
     aim(random, state, mapped);
+    write_text(random, state)
+}
+
+/// A write of some text to the target, with as many tape bytes as a claim takes.
+pub fn write_text(random: &mut Random, state: &mut State) -> Written {
     state.text = random.bytes(state.session.b);
-    state.new_tape(random, state.session.b);
+    state.new_tape(random, state.session.b + IV);
     run_places(Write, state).0
 }
 
@@ -79,6 +84,12 @@ pub fn claim(random: &mut Random, state: &mut State) -> Written {
 /// Releases some logical slice that is mapped.
 pub fn release(random: &mut Random, state: &mut State) -> Written {
     aim(random, state, true);
+    release_slice(random, state)
+}
+
+/// A release of the target's logical slice, with as many tape bytes as it takes.
+pub fn release_slice(random: &mut Random, state: &mut State) -> Written {
+    state.new_tape(random, IV);
     run_places(Release, state).0
 }
 
@@ -174,7 +185,6 @@ fn nearly_full_sticks() {
             check_full(&mut random, &mut state);
 
             // A close leaves the start place, and the stick opens again as full as it is.
-            state.new_tape(&mut random, IV * COUNT * 2);
             assert_eq!(run(Close, &mut state), SERVED);
             assert_eq!(state.session.start_place, p);
             state.permutation = Guarded::new(&random.permutation(p));
@@ -241,7 +251,7 @@ fn check_other_calls(random: &mut Random, base: &State, start: usize) {
     let expected = due(&state, start);
     if expected.answer == SERVED {
         aim(random, &mut state, false);
-        state.new_tape(random, state.session.b - 1);
+        state.new_tape(random, state.session.b + IV - 1);
         let written = run_places(Write, &mut state).0;
         assert_eq!(written, refused(TapeShort, expected.probes));
     }
@@ -252,7 +262,6 @@ fn check_other_calls(random: &mut Random, base: &State, start: usize) {
         assert_eq!(state.found, state.session.b);
     }
     assert_eq!(state.session.start_place, start);
-    state.new_tape(random, IV * COUNT);
     assert_eq!(run(Close, &mut state), SERVED);
     assert_eq!((state.session.start_place, state.session.open), (start, 0));
 }
@@ -384,8 +393,8 @@ pub fn any_write(random: &mut Random, state: &mut State) -> Written {
     if random.once_in(10) {
         state.target.address += p;
     }
-    let tapes = [b, b, b, b, b - 1, 15];
-    let len = random.pick(&tapes);
+    let claim = b + IV;
+    let len = random.pick(&[claim, claim, claim, claim, claim - 1, b, IV - 1]);
     state.new_tape(random, len);
     state.text = random.bytes(b);
     run_places(Write, state).0
@@ -415,7 +424,6 @@ fn counts_of_a_session() {
                 assert!(probes <= p, "{probes} of {p}");
                 assert_eq!(state.session.start_place, start + probes);
             }
-            state.new_tape(&mut random, IV * COUNT);
             assert_eq!(run(Close, &mut state), SERVED);
             assert_eq!(state.session.start_place, start + probes);
             reached.whole += usize::from(start + probes == p);

@@ -1,8 +1,10 @@
 //! What is lent to the calls, and how a call is run and judged.
 
+use std::iter;
 use std::ops::Range;
 
 use hiwalgam::Refusal;
+use hiwalgam_reference::ctr;
 use hiwalgam_reference::geometry::{Geometry, IV};
 use hiwalgam_tests::adapters::{CFunctions, Reference, Wrapper};
 use hiwalgam_tests::inputs::{Guarded, Random};
@@ -60,12 +62,11 @@ impl State {
     /// of all its volumes, where the tape is long enough. The tables and the session hold anything.
     pub fn new(random: &mut Random, stick: &Stick, k: usize) -> Self {
         let Geometry { b, s, p } = stick.geometry;
-        let garbage: Vec<u32> = (0..VOLUMES * p).map(|_| random.word() as u32).collect();
         let mut state = State {
             device: Guarded::new(&stick.device),
-            maps: Guarded::new(&garbage),
-            owners: random.bytes(p),
-            session: any_session(random),
+            maps: Guarded::blank(VOLUMES * p),
+            owners: Guarded::blank(p),
+            session: Session::CLOSED,
             tape: Guarded::blank(0),
             position: 0,
             numbers: [b, s, p],
@@ -80,6 +81,7 @@ impl State {
             buf: Guarded::blank(b),
             found: 0,
         };
+        state.forget(random);
         state.new_tape(random, 3 * b);
         state
     }
@@ -103,6 +105,15 @@ impl State {
     /// The index of the map entry that a release is for.
     pub fn released_entry(&self) -> usize {
         self.target.volume * self.session.p + self.logical
+    }
+
+    /// Makes the tables and the session hold anything: an opening must replace it.
+    pub fn forget(&mut self, random: &mut Random) {
+        for entry in self.maps.iter_mut() {
+            *entry = random.word() as u32;
+        }
+        random.fill(&mut self.owners);
+        self.session = any_session(random);
     }
 
     /// The offset of the target's block in its slice.
@@ -158,7 +169,7 @@ impl State {
             Write => engine.write(device, tables, order, tape, session, target, &self.text),
             Release => {
                 let (volume, logical) = (target.volume, self.logical);
-                match engine.release(device, tables, order, session, volume, logical) {
+                match engine.release(device, tables, order, tape, session, volume, logical) {
                     Ok(slice) => Written {
                         slice,
                         ..Written::of(SERVED)
@@ -166,7 +177,7 @@ impl State {
                     Err(refusal) => Written::of(Err(refusal)),
                 }
             }
-            Close => Written::of(engine.close(device, tables, tape, session)),
+            Close => Written::of(engine.close(device, tables, session)),
         };
         self.position = tape.position;
         written
@@ -262,8 +273,8 @@ fn effect(
         (Find, _) => after_find(&mut state, after.found),
         (Write, Ok(())) => after_write(&mut state, answer, after),
         (Write, Err(Refusal::NoFreeSlice)) => after_search(&mut state, answer),
-        (Release, Ok(())) => after_release(&mut state, answer),
-        (Close, Ok(())) => after_close(&mut state, after),
+        (Release, Ok(())) => after_release(&mut state, answer, after),
+        (Close, Ok(())) => after_close(&mut state),
         (Format | Shuffle | Read | Write | Release | Close, Err(_)) => Vec::new(),
     };
     for place in &places {
@@ -379,29 +390,51 @@ fn after_find(state: &mut State, found: usize) -> Vec<Range<usize>> {
 fn after_write(state: &mut State, answer: Written, after: &State) -> Vec<Range<usize>> {
     let geometry = state.geometry();
     let (entry, slice, offset) = (state.entry(), answer.slice, state.offset());
-    let drawn_from = state.position;
-    let places = if answer.claimed == 1 {
-        assert_eq!(state.maps[entry], UNMAPPED);
-        let start = state.session.start_place;
-        let place = state.first_free(start);
-        assert_eq!(answer.probes, place + 1 - start, "probes");
-        assert_eq!(state.permutation[place], slice as u32);
-        state.session.start_place = place + 1;
-        state.maps[entry] = slice as u32;
-        state.owners[slice] = state.target.volume as u8 + 1;
-        state.position += geometry.b;
-        vec![geometry.slice(slice)]
-    } else {
-        assert_eq!((answer.claimed, answer.probes), (0, 0));
+    if answer.claimed == 0 {
+        assert_eq!(answer.probes, 0, "probes");
         assert_eq!(state.maps[entry], slice as u32);
-        state.position += IV;
-        vec![geometry.iv(slice, offset), geometry.data(slice, offset)]
-    };
-    // The first place begins with the IVs.
-    let start = places[0].start;
-    let drawn = &state.tape[drawn_from..state.position];
-    assert_eq!(after.device[start..start + drawn.len()], *drawn, "IVs");
-    places
+        draw_to(state, after, geometry.iv(slice, offset));
+        return vec![geometry.iv(slice, offset), geometry.data(slice, offset)];
+    }
+    assert_eq!((answer.claimed, state.maps[entry]), (1, UNMAPPED));
+    let start = state.session.start_place;
+    let place = state.first_free(start);
+    assert_eq!(answer.probes, place + 1 - start, "probes");
+    assert_eq!(state.permutation[place], slice as u32);
+    state.session.start_place = place + 1;
+    state.maps[entry] = slice as u32;
+    state.owners[slice] = state.target.volume as u8 + 1;
+    let first = geometry.slice(slice).start;
+    draw_to(state, after, first..first + geometry.b);
+    let map_block = stored_map_block(state, after, entry);
+    vec![geometry.slice(slice), map_block]
+}
+
+/// The bytes at a place of the device are the next of the tape.
+fn draw_to(state: &mut State, after: &State, place: Range<usize>) {
+    let drawn = &state.tape[state.position..][..place.len()];
+    assert_eq!(after.device[place.clone()], *drawn, "bytes of the tape");
+    state.position += place.len();
+}
+
+/// The map block that holds an entry has the next bytes of the tape for its IV, then the entries of the
+/// table, in which the entry is changed already, and behind the last of P the mark. Returns its place.
+fn stored_map_block(state: &mut State, after: &State, entry: usize) -> Range<usize> {
+    let Geometry { b, p, .. } = state.geometry();
+    let (volume, in_block) = (entry / p, (b - IV) / 4);
+    let first = entry % p / in_block * in_block;
+    let start = b * (1 + volume * (1 + p.div_ceil(in_block))) + b + b * (first / in_block);
+    draw_to(state, after, start..start + IV);
+
+    let mut text = after.device[start + IV..start + b].to_vec();
+    let key = &state.session.keys[32 * volume..32 * (volume + 1)];
+    let iv = &after.device[start..start + IV];
+    ctr::apply(key.try_into().unwrap(), iv.try_into().unwrap(), &mut text);
+    let row = &state.maps[volume * p..(volume + 1) * p];
+    let entries = row[first..].iter().copied().chain(iter::repeat(UNMAPPED));
+    let entries = entries.take(in_block).map(u32::to_be_bytes);
+    assert!(text.chunks(4).eq(entries), "entries of a map block");
+    start..start + b
 }
 
 /// A claim that found no free slice changes the start place alone.
@@ -413,34 +446,25 @@ fn after_search(state: &mut State, answer: Written) -> Vec<Range<usize>> {
     Vec::new()
 }
 
-/// A release changes the asked entry, the owner of its slice and the start place, and writes no byte
-/// of the device.
-fn after_release(state: &mut State, answer: Written) -> Vec<Range<usize>> {
+/// A release changes the asked entry, the owner of its slice and the start place, and stores the map
+/// block that holds the entry.
+fn after_release(state: &mut State, answer: Written, after: &State) -> Vec<Range<usize>> {
     let (entry, slice) = (state.released_entry(), answer.slice);
     assert_eq!((answer.claimed, answer.probes), (0, 0));
     assert_eq!(state.maps[entry], slice as u32, "slice freed");
     state.maps[entry] = UNMAPPED;
     state.owners[slice] = 0;
     state.session.start_place = state.session.start_place.min(state.place_of(slice));
-    Vec::new()
+    vec![stored_map_block(state, after, entry)]
 }
 
-fn after_close(state: &mut State, after: &State) -> Vec<Range<usize>> {
-    let geometry = state.geometry();
-    let mut places = Vec::new();
-    for volume in 0..=state.session.k {
-        for block in after.device[geometry.maps(volume)].chunks(geometry.b) {
-            let drawn = &state.tape[state.position..state.position + IV];
-            assert_eq!(block[..IV], *drawn, "IV of a map block");
-            state.position += IV;
-        }
-        places.push(geometry.maps(volume));
-    }
+/// A close wipes, and writes no byte of the device.
+fn after_close(state: &mut State) -> Vec<Range<usize>> {
     state.maps.fill(UNMAPPED);
     state.owners.fill(0);
     state.session.keys = [0; KEYS];
     state.session.open = 0;
-    places
+    Vec::new()
 }
 
 /// Opens, which must be served, and tests the session and the tables by what the stick was built
