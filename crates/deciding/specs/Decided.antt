@@ -1,4 +1,4 @@
--- What a decision on a write says of the model's write (document 01, "Write"; document 02, P2). Assumes nothing.
+-- What a decision on a write says of the model's write (document 01, "Write"; document 02, P2 and P7). Assumes nothing.
 use Prim.Native.Nat.{ℕ, _≤_, _<_}
 use mathlib.Core.Path.{_≡_}
 use mathlib.Core.List.{List}

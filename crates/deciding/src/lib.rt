@@ -26,7 +26,7 @@ pub enum Decision {
     Claim { slice: usize, place: usize },
 }
 
-// All refusals of a write before its search and its tape.
+// All refusals of a write before its map block, its search and its tape.
 fn write_refusal(
     device: usize,
     maps: &[u32],

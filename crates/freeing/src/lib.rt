@@ -1,5 +1,5 @@
-// What a release draws, stores and leaves once it is judged: its entry is the mark, the slice is free, and the map block that has the
-// entry is stored; or nothing. The slice's bytes stay on the device.
+// What a release needs of the tape, stores and leaves once it is judged: its entry is the mark, the slice is free, and the map block that
+// has the entry is stored; or nothing. The slice's bytes stay on the device.
 //
 // `carry_out` takes the answer (`judging::release_refusal`) and the tape bytes that it needs, and sees no tape. All tests are made
 // before it, and it asks for what they have shown.

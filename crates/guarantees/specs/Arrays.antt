@@ -1,5 +1,6 @@
 -- Point 2, call by call: each open volume is an array of blocks, and each request has the answer that it is
--- due; volume i has N × S blocks (document 02, P4), and those of a released logical slice are zeros (document 02, P5). Assumes nothing.
+-- due; volume i has N × S blocks (document 02, P4), and those of a released logical slice are zeros (document 02, P5). A claim takes B + 16
+-- tape bytes, a release 16, a close none (document 02, P7). Assumes nothing.
 use Prim.Native.Nat.{ℕ, _+_, _*_, _≤_, _<_}
 use mathlib.Core.Path.{_≡_}
 use mathlib.Core.List.{List, [], _∷_}

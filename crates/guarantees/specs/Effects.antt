@@ -112,7 +112,7 @@ entryStored h i σ x iv =
 -- A rewrite stores the 16 bytes drawn as the block's IV, and the ciphertext over the old block. A claim stores the first B bytes drawn as
 -- the IV block, and S data blocks, each enciphered under its own IV: zeros but for the block asked for; then, under the last 16 bytes drawn,
 -- the map block that has its entry, with the slice's number. A release stores the map block that has its entry, with the mark, under the 16
--- bytes drawn (document 02, P7). Nothing else, a close too, stores anything.
+-- bytes drawn (document 02, P7). Nothing else stores anything, and neither does a close.
 unfoldable pub storedBy : Held → Event → List Patch
 storedBy h (Writes i a text perm tape (WriteResult.Served (Rewritten ψ) probes)) =
     record { at = ivStart (geometry h) ψ (offsetOf (geometry h) a); bytes = drawn h tape 16 }

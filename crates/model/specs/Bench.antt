@@ -198,7 +198,7 @@ cases =
     -- From start place P on there is nothing to look at, although every slice is free.
     ∷ row (claimsFrom 4 (0 ∷ 0 ∷ 0 ∷ 0 ∷ []) (2 ∷ 0 ∷ 3 ∷ 1 ∷ []) 1040) (unmapped ∷ 22 ∷ 0 ∷ 4 ∷ 0 ∷ [])
     -- A, the number 4, which is no slice, at logical slice 1 of volume 1: a claim of that volume is 9, also without tape, one of volume 0 is
-    -- served, and so is a rewrite of that volume with 16 tape bytes; the block whose own entry it is is 9 (document 02, P7).
+    -- served, and so is a rewrite of that volume with 16 tape bytes; a write to logical slice 1 itself is 9 (document 02, P7).
     ∷ row (writes 5 4 1 8 1040 ++ (writes 5 4 1 8 0 ++ writes 5 4 0 8 1040)) (9 ∷ 0 ∷ 0 ∷ 9 ∷ 0 ∷ 0 ∷ 0 ∷ 1 ∷ 1040 ∷ [])
     ∷ row (writes 5 4 1 0 16 ++ (writes 5 4 1 0 15 ++ writes 5 4 1 4 1040)) (0 ∷ 0 ∷ 16 ∷ 21 ∷ 0 ∷ 0 ∷ 9 ∷ 0 ∷ 0 ∷ [])
     -- A 22 leaves the tape position.
