@@ -24,7 +24,9 @@ sys.dont_write_bytecode = True  # no __pycache__ in the repository
 from tests import COMMAND, MIB, PLUGIN, Nbdkit, Server, Stick, clear, run, workplace  # noqa: E402
 
 NAMES = ["plugin", "luks", "file"]
-CASES = [(f"random {kind}, queue depth {depth}", f"rand{kind}", depth) for kind in ("read", "write") for depth in (1, 16)]
+# A name, fio's pattern and the queue depth.
+CASES = [(f"random {kind}, queue depth {depth}", f"rand{kind}", depth)
+         for kind in ("read", "write") for depth in (1, 16)]
 LUKS_KEY_BITS = 512  # XTS takes two keys: these are of 256 bits each
 
 
@@ -40,8 +42,8 @@ def fio(server, *options):
 
 def measure(server, pattern, depth, size, seconds):
     """Requests of 4 KiB a second."""
-    job = fio(server, f"--rw={pattern}", "--bs=4k", f"--iodepth={depth}", f"--size={size}", "--norandommap", "--time_based",
-              f"--runtime={seconds}")
+    job = fio(server, f"--rw={pattern}", "--bs=4k", f"--iodepth={depth}", f"--size={size}", "--norandommap",
+              "--time_based", f"--runtime={seconds}")
     return job["read" if pattern == "randread" else "write"]["iops"]
 
 
@@ -50,8 +52,8 @@ def make_luks(image, length, secret):
     os.truncate(image, length)
     secret.write_bytes(b"secret")
     # As few iterations as cryptsetup allows: the key is made at the start, which is not measured.
-    run("cryptsetup", "luksFormat", "--batch-mode", "--type", "luks1", "--cipher", "aes-xts-plain64", "--key-size", LUKS_KEY_BITS,
-        "--pbkdf-force-iterations", 1000, "--key-file", secret, image)
+    run("cryptsetup", "luksFormat", "--batch-mode", "--type", "luks1", "--cipher", "aes-xts-plain64",
+        "--key-size", LUKS_KEY_BITS, "--pbkdf-force-iterations", 1000, "--key-file", secret, image)
 
 
 def make_servers(folder, slices):
@@ -93,25 +95,28 @@ def processor():
 
 def print_heading(folder, length, size, seconds, rounds):
     name, instructions = processor()
-    print(f"Processor: {name}, {len(os.sched_getaffinity(0))} cores; AES and vector instructions: {' '.join(instructions) or 'none'}")
-    print("The luks filter enciphers by gnutls, which uses the processor's AES instructions where it has them; the engine of")
-    print("the plugin uses none. The plugin serves one request at a time, luks and file several at once.")
-    print("plugin: AES-256 in counter mode, B 4,096, S 256, a fresh IV for each write")
-    print(f"luks:   LUKS1, aes-xts-plain64, a key of {LUKS_KEY_BITS} bits, sectors of 512 bytes, over nbdkit's file plugin")
-    print("file:   nbdkit's file plugin alone")
-    print(f"Images of {length:,} bytes each, in {folder.parent}; fio, ioengine=nbd, one job, 4 KiB, over {size:,} bytes written before;")
-    print(f"{seconds} s for each figure, medians of {rounds} rounds by turns.")
-    print()
+    print(f"""\
+Processor: {name}, {len(os.sched_getaffinity(0))} cores; instructions for AES and wide vectors: \
+{" ".join(instructions) or "none"}
+The luks filter enciphers by gnutls, which uses the processor's AES instructions; the plugin's engine uses none.
+The plugin serves one request at a time, luks and file several at once.
+plugin: AES-256 in counter mode, B 4,096, S 256, a fresh IV for each write
+luks:   LUKS1, aes-xts-plain64 with a key of {LUKS_KEY_BITS} bits, over nbdkit's file plugin
+file:   nbdkit's file plugin alone
+Images of {length:,} bytes each, in {folder.parent}; fio, ioengine=nbd, one job, 4 KiB, over {size:,} bytes that were
+written before; {seconds} s for each figure, medians of {rounds} rounds by turns.
+""")
 
 
 def print_table(figures):
-    print(f"{'requests a second (IOPS)':32}" + "".join(f"{name:>12}" for name in NAMES) + f"{'plugin/luks':>14}{'(range)':>16}{'plugin/file':>14}")
+    heads = [f"{name:>10}" for name in NAMES]
+    print(f"{'requests a second (IOPS)':30}", *heads, f"{'plugin/luks':>13} {'in the rounds':>15} {'plugin/file':>13}")
     for case, _, _ in CASES:
         medians = {name: statistics.median(figures[case, name]) for name in NAMES}
         ratios = [one / other for one, other in zip(figures[case, "plugin"], figures[case, "luks"])]
-        print(f"{case:32}" + "".join(f"{medians[name]:12,.0f}" for name in NAMES)
-              + f"{medians['plugin'] / medians['luks']:14.2f}{f'{min(ratios):.2f} to {max(ratios):.2f}':>16}"
-              + f"{medians['plugin'] / medians['file']:14.2f}")
+        spread = f"{min(ratios):.2f} to {max(ratios):.2f}"
+        print(f"{case:30}", *(f"{medians[name]:10,.0f}" for name in NAMES),
+              f"{medians['plugin'] / medians['luks']:13.2f} {spread:>15} {medians['plugin'] / medians['file']:13.2f}")
 
 
 def main():

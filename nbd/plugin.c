@@ -42,11 +42,13 @@ static int misused(const char *why)
     return -1;
 }
 
-static void forget_passphrase(void)
+/* Wipes the passphrase and the key. */
+static void forget_secrets(void)
 {
     if (options.passphrase != NULL) explicit_bzero(options.passphrase, strlen(options.passphrase));
     free(options.passphrase);
     options.passphrase = NULL;
+    explicit_bzero(&options.key, sizeof options.key);
 }
 
 /* Takes one parameter. Given again, the later one counts. */
@@ -55,7 +57,7 @@ static int on_config(const char *key, const char *value)
     if (strcmp(key, "block-bytes") == 0) return nbdkit_parse_uint64_t(key, value, &options.block_bytes);
     if (strcmp(key, "slice-blocks") == 0) return nbdkit_parse_uint64_t(key, value, &options.slice_blocks);
     if (strcmp(key, "passphrase") == 0) {
-        forget_passphrase();
+        forget_secrets();
         return nbdkit_read_password(value, &options.passphrase);
     }
     if (strcmp(key, "image") == 0) options.image = value;
@@ -93,8 +95,7 @@ static int on_get_ready(void)
         && (options.passphrase == NULL || stick_key_passphrase(&options.key, &stick, options.passphrase) == 0)
         && stick_open(&stick, &options.key) == 0;
 
-    forget_passphrase();
-    explicit_bzero(&options.key, sizeof options.key);
+    forget_secrets();
     if (!ready) stick_close(&stick);
     return ready ? 0 : -1;
 }
@@ -102,7 +103,7 @@ static int on_get_ready(void)
 /* Ends the session, after the last connection. nbdkit calls it also where none was begun. */
 static void on_unload(void)
 {
-    forget_passphrase();
+    forget_secrets();
     stick_close(&stick);
 }
 

@@ -232,7 +232,10 @@ static int shuffle(struct stick *stick)
     do {
         size_t position = 0;
 
-        if (fill(draws, length) == -1) return -1;
+        if (fill(draws, length) == -1) {
+            explicit_bzero(draws, sizeof draws);
+            return -1;
+        }
         answer = hiwalgam_shuffle(&stick->geometry, sizeof stick->geometry, stick->permutation, slices,
                                   draws, length, &position);
     } while (answer == HIWALGAM_TAPE_SHORT);

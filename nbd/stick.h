@@ -1,6 +1,7 @@
 /*
  * A stick image that nbdkit serves: its file, lock and mapping, and one session of hiwalgam.h with what its calls take.
- * Every byte of a stick is read and written by the engine; what is here lends it memory, keys and random bytes.
+ * Every byte of a stick but its salt is read and written by the engine; what is here lends it memory, keys and random
+ * bytes.
  *
  * A function that returns int returns 0, or -1 where it failed. It has then told nbdkit what failed, and by which errno
  * a client's request is to be answered.

@@ -8,7 +8,7 @@ passed. Names run those tests alone.
 
 HIWALGAM_PROGRAMS        the folder of the programs; otherwise target/programs of the repository
 HIWALGAM_SEED            repeats the random choices of a run (not the slices that claims take: the plugin draws those)
-HIWALGAM_TURNS_SECONDS   how long the test `turns` goes on; otherwise 100
+HIWALGAM_TURNS_SECONDS   how long the test `turns` goes on; otherwise 120
 """
 
 import contextlib
@@ -86,13 +86,12 @@ def refused(name, what, call, *arguments, **options):
 
 
 def run(*arguments, status=0, **options):
-    """Runs a program to its end, which has to have this exit status (None: any); gives standard output and error."""
-    options.setdefault("stdin", None if "input" in options else subprocess.DEVNULL)
-    if options["stdin"] is None:
-        del options["stdin"]
+    """Runs a program to its end, which has to have this exit status; gives standard output and error."""
+    if "input" not in options:
+        options["stdin"] = subprocess.DEVNULL
     done = subprocess.run([str(a) for a in arguments], capture_output=True, timeout=PATIENCE, **options)
     errors = done.stderr.decode(errors="replace")
-    if status is not None and done.returncode != status:
+    if done.returncode != status:
         words = " ".join(str(a) for a in arguments[:3])
         raise Failed(f"{words} ..: exit status {done.returncode}, due is {status}: {errors.strip()[-300:]}")
     return done.stdout.decode(errors="replace"), errors
@@ -114,6 +113,7 @@ def written(path):
 
 
 def fingerprint(path):
+    """Equal where the bytes of a file are."""
     return hashlib.sha256(path.read_bytes()).hexdigest()
 
 
@@ -229,8 +229,8 @@ class Nbdkit:
         # Where it starts against expectation, --run ends it at once with status 0.
         done = subprocess.run(self.line("--run", "true"), capture_output=True, timeout=PATIENCE, **self.as_user())
         said = done.stderr.decode(errors="replace").strip()
-        expect(done.returncode != 0, f"a start that is due to be refused was served: {self.arguments[1:]}")
-        expect(done.returncode > 0, f"nbdkit died of signal {-done.returncode}: {self.arguments[1:]}: {said[-300:]}")
+        expect(done.returncode != 0, f"a start that is due to be refused was served: {self.arguments}")
+        expect(done.returncode > 0, f"nbdkit died of signal {-done.returncode}: {self.arguments}: {said[-300:]}")
         return said
 
     def uri(self, export=""):
@@ -251,7 +251,8 @@ class Nbdkit:
 class Server(Nbdkit):
     """The plugin over a stick, with the key of a volume (otherwise the highest), or with a `secret`."""
 
-    def __init__(self, stick, volume=None, image=None, secret=None, block_bytes=None, slice_blocks=None, filters=(), user=None):
+    def __init__(self, stick, volume=None, image=None, secret=None, block_bytes=None, slice_blocks=None, filters=(),
+                 user=None):
         key = stick.keys[stick.top() if volume is None else volume]
         block_bytes = stick.block_bytes if block_bytes is None else block_bytes
         slice_blocks = stick.slice_blocks if slice_blocks is None else slice_blocks
@@ -290,12 +291,13 @@ def extents(handle):
 
 def mapped_slices(handle, stick):
     """The logical slices that the extents show as data; all others have to be holes that read as zeros."""
-    mapped = set()
+    mapped = []
     for offset, length, flags in extents(handle):
-        expect(offset % stick.slice_bytes == 0 and length % stick.slice_bytes == 0, f"extent {offset} +{length} cuts a slice")
-        expect(flags in (0, HOLE), f"extent {offset} +{length} has flags {flags}")
+        what = f"extent of {length} bytes from {offset}"
+        expect(offset % stick.slice_bytes == 0 and length % stick.slice_bytes == 0, f"{what}: not of whole slices")
+        expect(flags in (0, HOLE), f"{what}: flags {flags}")
         if flags == 0:
-            mapped.update(range(offset // stick.slice_bytes, (offset + length) // stick.slice_bytes))
+            mapped += range(offset // stick.slice_bytes, (offset + length) // stick.slice_bytes)
     return mapped
 
 
@@ -400,8 +402,9 @@ def change_both(handles, model, change):
     served = send(handles[change.volume], change, model.stick.block_bytes)
     free = model.free()
     due = model.make(change)
-    what = f"{change.kind} of {change.count} blocks from {change.first} of volume {change.volume} with {free} slices free"
-    expect(served == due, f"{what}: {'served' if served else 'refused by ENOSPC'}, which is not due")
+    what = f"{change.kind} of {change.count} blocks from {change.first} of volume {change.volume}"
+    answer = "served" if served else "refused by ENOSPC"
+    expect(served == due, f"{what} with {free} slices free: {answer}, which is not due")
     return served
 
 
@@ -409,7 +412,7 @@ def compare_all(handles, model):
     """Compares every byte and the mapped slices of every volume; gives the number of blocks."""
     for volume, handle in enumerate(handles):
         same_bytes(read_all(handle), model.contents[volume], f"volume {volume}")
-        same(mapped_slices(handle, model.stick), model.mapped[volume], f"volume {volume}: logical slices with data")
+        same(mapped_slices(handle, model.stick), sorted(model.mapped[volume]), f"volume {volume}: slices with data")
     return sum(model.stick.blocks(volume) for volume in range(len(handles)))
 
 
@@ -429,9 +432,10 @@ def nbdinfo_exports(server, volume=""):
 
 
 def check_export(export, stick, volume):
-    due = {"export-size": stick.size(volume), "is_read_only": False, "can_trim": True, "can_zero": True, "can_flush": True,
-           "can_fua": True, "can_multi_conn": True, "can_fast_zero": False, "contexts": ["base:allocation"],
-           "block_size_minimum": stick.block_bytes, "block_size_preferred": stick.block_bytes}
+    due = {"export-size": stick.size(volume), "is_read_only": False, "can_trim": True, "can_zero": True,
+           "can_flush": True, "can_fua": True, "can_multi_conn": True, "can_fast_zero": False,
+           "contexts": ["base:allocation"], "block_size_minimum": stick.block_bytes,
+           "block_size_preferred": stick.block_bytes}
     for name, value in due.items():
         same(export.get(name), value, f"export {volume}: {name}")
     expect(export["block_size_maximum"] >= MIB, f"export {volume}: block_size_maximum {export['block_size_maximum']}")
@@ -447,19 +451,24 @@ def nbdinfo(folder, _draw):
         stick = Stick(folder / str(place), *geometry, counts=[5, 3, 7])
         for key in range(3):
             with Server(stick, key) as server:
-                names = [str(volume) for volume in range(key + 1)]
-                same(list(nbdinfo_exports(server)), names, f"exports with key {key}")
-                shown = run("nbdinfo", "--list", server.uri())[0]
-                same(re.findall(r'^export="(.*)":$', shown, re.MULTILINE), names, f"nbdinfo --list with key {key}")
-                for volume in range(key + 1):
-                    check_export(nbdinfo_exports(server, volume)[str(volume)], stick, volume)
-                    seen += 1
-                default = server.connect()
-                same(default.get_canonical_export_name(), str(key), "default export")
-                same(default.get_size(), stick.size(key), "size of the default export")
-                for name in (str(key + 1), "00", "01", "+0", "-1", " 0", "0 ", "x", str(1 << 64)):
-                    refused_name(server, name)
+                seen += check_exports(server, stick, key)
     return f"{seen} exports under 9 keys"
+
+
+def check_exports(server, stick, key):
+    """The exports are those that the key of volume `key` opens; gives their number."""
+    names = [str(volume) for volume in range(key + 1)]
+    same(list(nbdinfo_exports(server)), names, f"exports with key {key}")
+    shown = run("nbdinfo", "--list", server.uri())[0]
+    same(re.findall(r'^export="(.*)":$', shown, re.MULTILINE), names, f"nbdinfo --list with key {key}")
+    for volume in range(key + 1):
+        check_export(nbdinfo_exports(server, volume)[str(volume)], stick, volume)
+    default = server.connect()
+    same(default.get_canonical_export_name(), str(key), "default export")
+    same(default.get_size(), stick.size(key), "size of the default export")
+    for name in (str(key + 1), "00", "01", "+0", "-1", " 0", "0 ", "x", str(1 << 64)):
+        refused_name(server, name)
+    return len(names)
 
 
 def refused_name(server, name):
@@ -473,8 +482,9 @@ def refused_name(server, name):
 @test
 def round_trips(folder, draw):
     copied = 0
-    for place, (block_bytes, slice_blocks, counts) in enumerate([(4096, 256, [3, 5]), (1024, 4, [300, 150]), (1024, 1, [200, 90]),
-                                                                     (4096, 1, [3000, 1096])]):
+    # The last has the most slices that a stick can have, 4,096.
+    geometries = [(4096, 256, [3, 5]), (1024, 4, [300, 150]), (1024, 1, [200, 90]), (4096, 1, [3000, 1096])]
+    for place, (block_bytes, slice_blocks, counts) in enumerate(geometries):
         stick = Stick(folder / str(place), block_bytes, slice_blocks, sum(counts), counts)
         texts = [draw.randbytes(stick.size(volume)) for volume in range(len(counts))]
         with Server(stick) as server:
@@ -501,7 +511,8 @@ def sparse_copies(folder, draw):
     with Server(stick) as server:
         handles = server.connect_all()
         for logical_slice in draw.sample(range(64), 5):
-            change_both(handles, model, Change("write", 0, logical_slice * 16 + draw.randrange(16), 1, draw.randbytes(4096)))
+            first = logical_slice * 16 + draw.randrange(16)
+            change_both(handles, model, Change("write", 0, first, 1, draw.randbytes(4096)))
         # nbdcopy is not to look for zeros itself (-S 0), so that the holes are those of the extents, which it follows
         # by whole requests.
         run("nbdcopy", "-S", "0", f"--request-size={stick.slice_bytes}", server.uri(0), folder / "out")
@@ -539,7 +550,7 @@ def block_status(folder, draw):
         for logical_slice in draw.sample(range(40), 20):
             handle.pwrite(draw.randbytes(1024), (logical_slice * 8 + draw.randrange(8)) * 1024)
             mapped.add(logical_slice)
-            same(mapped_slices(handle, stick), mapped, "logical slices with data")
+            same(mapped_slices(handle, stick), sorted(mapped), "slices with data")
             for _ in range(20):
                 check_status(handle, stick, mapped, draw)
                 asked += 1
@@ -553,7 +564,8 @@ def check_status(handle, stick, mapped, draw):
     one = draw.random() < 0.5
     due = [0 if block // stick.slice_blocks in mapped else HOLE for block in range(first, stick.blocks(0))]
     answers = []
-    handle.block_status(count * 1024, first * 1024, lambda *answer: answers.append(answer), nbd.CMD_FLAG_REQ_ONE if one else 0)
+    flags = nbd.CMD_FLAG_REQ_ONE if one else 0
+    handle.block_status(count * 1024, first * 1024, lambda *answer: answers.append(answer), flags)
     what = f"block status of {count} blocks from {first}"
     _context, offset, entries, _error = answers[0]
     same(offset, first * 1024, f"{what}: offset")
@@ -561,7 +573,8 @@ def check_status(handle, stick, mapped, draw):
     same(found, due[:len(found)], what)
     if one:
         same(len(entries), 2, f"{what}: numbers for one extent")
-        same(len(found), min(count, sum(1 for _ in itertools.takewhile(lambda flags: flags == due[0], due))), f"{what}: blocks")
+        alike = len(list(itertools.takewhile(lambda flags: flags == due[0], due)))
+        same(len(found), min(count, alike), f"{what}: blocks")
     else:  # the last extent may go on past what was asked for
         expect(len(found) >= count, f"{what}: {len(found)} blocks")
 
@@ -573,13 +586,17 @@ def connections(folder, draw):
     changes = 1500
     with Server(stick) as server:
         groups = [server.connect_all() for _ in range(4)]
+
+        def compare(change, when):
+            found = draw.choice(groups)[change.volume].pread(4096, change.first * 4096)
+            due = model.block(change.volume, change.first)
+            same_bytes(found, due, f"block {change.first} of volume {change.volume} {when} a {change.kind}")
+
         for turn in range(changes):
-            handles = draw.choice(groups)
-            change_both(handles, model, draw_change(draw, stick, draw.randrange(2), {"write": 4, "trim": 1, "zero": 1}))
-            volume = draw.randrange(2)
-            address = draw.randrange(stick.blocks(volume))
-            found = draw.choice(groups)[volume].pread(4096, address * 4096)
-            same_bytes(found, model.block(volume, address), f"block {address} of volume {volume} by another connection")
+            change = draw_change(draw, stick, draw.randrange(2), {"write": 4, "trim": 1, "zero": 1})
+            compare(change, "before")
+            change_both(draw.choice(groups), model, change)
+            compare(change, "after")
             if turn % 300 == 299:
                 for handles in groups:
                     compare_all(handles, model)
@@ -593,17 +610,18 @@ def zeros(folder, draw):
     no_hole = nbd.CMD_FLAG_NO_HOLE
     with Server(stick) as server:
         handles = server.connect_all()
+
+        def zero(first, count, flags, due, what):
+            change_both(handles, model, Change("zero", 0, first, count, flags=flags))
+            same(mapped_slices(handles[0], stick), due, f"slices with data after zeros {what}")
+
         for flags in (0, no_hole):
-            change_both(handles, model, Change("zero", 0, 0, stick.blocks(0), flags=flags))
-            change_both(handles, model, Change("zero", 0, 3, 7, flags=flags))
-        same(mapped_slices(handles[0], stick), set(), "zeros on unmapped blocks claimed logical slices")
+            zero(0, stick.blocks(0), flags, [], "over an empty volume")
+            zero(3, 7, flags, [], "over some blocks of an empty volume")
         change_both(handles, model, Change("write", 0, 0, 48, draw.randbytes(48 * 1024)))
-        change_both(handles, model, Change("zero", 0, 8, 16, flags=no_hole))
-        same(mapped_slices(handles[0], stick), set(range(6)), "logical slices after a zero that may make no hole")
-        change_both(handles, model, Change("zero", 0, 25, 7))
-        same(mapped_slices(handles[0], stick), set(range(6)), "logical slices after a zero of a part of a slice")
-        change_both(handles, model, Change("zero", 0, 31, 18))
-        same(mapped_slices(handles[0], stick), set(range(4)), "logical slices after a zero of two whole slices")
+        zero(8, 16, no_hole, list(range(6)), "that may make no hole")
+        zero(25, 7, 0, list(range(6)), "over a part of a slice")
+        zero(31, 18, 0, list(range(4)), "over a block and two whole slices")
         compare_all(handles, model)
         compared, changes = 0, 1500
         for turn in range(changes):
@@ -619,22 +637,26 @@ def trims(folder, draw):
     model = Model(stick)
     with Server(stick) as server:
         handles = server.connect_all()
+
+        def trim(first, count, due):
+            change_both(handles, model, Change("trim", 0, first, count))
+            same(mapped_slices(handles[0], stick), due, f"slices with data after a trim of {count} blocks from {first}")
+            compare_all(handles, model)
+
+        def claim(block):
+            return change_both(handles, model, Change("write", 1, block, 1, draw.randbytes(1024)))
+
         change_both(handles, model, Change("write", 0, 0, 32, draw.randbytes(32 * 1024)))
         refused("ENOSPC", "a claim of volume 1 on a full stick", handles[1].pwrite, bytes(1024), 0)
         # From the second block of slice 2 to the third of slice 5: slices 3 and 4 lie wholly inside.
-        change_both(handles, model, Change("trim", 0, 9, 14))
-        same(mapped_slices(handles[0], stick), {0, 1, 2, 5, 6, 7}, "logical slices after the trim")
-        for first in (1, 7, 15):
-            change_both(handles, model, Change("trim", 0, first, 3 if first == 1 else 1))
+        trim(9, 14, [0, 1, 2, 5, 6, 7])
+        for first, count in ((1, 3), (7, 1), (23, 4)):
+            trim(first, count, [0, 1, 2, 5, 6, 7])
+        expect(claim(6) and claim(17), "no claim after a trim")
+        # This also finds that the rest of the slices claimed again is zeros, not what volume 0 had there.
         compare_all(handles, model)
-        for block in (6, 17):
-            expect(change_both(handles, model, Change("write", 1, block, 1, draw.randbytes(1024))), "no claim after a trim")
-        # compare_all also finds that the rest of the slices claimed again is zeros, not what volume 0 had there.
-        compare_all(handles, model)
-        expect(not change_both(handles, model, Change("write", 1, 31, 1, draw.randbytes(1024))), "a third claim")
-        change_both(handles, model, Change("trim", 0, 0, 32))
-        same(mapped_slices(handles[0], stick), set(), "logical slices after a trim of the whole volume")
-        compare_all(handles, model)
+        expect(not claim(31), "a third claim after a trim of two slices")
+        trim(0, 32, [])
     same(stick.mapped(), [0, 2], "slices mapped, by the command")
     return "2 slices trimmed inside a run, 2 claimed by the other volume, a third refused"
 
@@ -800,13 +822,14 @@ def try_mounts(folder):
 def make_tree(folder, draw):
     """Files of the repository, and some with unusual names, modes and lengths."""
     folder.mkdir()
-    for source in ("docs", "include", "c", *(f"crates/{crate.name}/src" for crate in (REPOSITORY / "crates").iterdir())):
-        if (REPOSITORY / source).is_dir():
-            shutil.copytree(REPOSITORY / source, folder / source)
+    for source in (REPOSITORY / part for part in ("docs", "include", "c")):
+        shutil.copytree(source, folder / source.name)
+    for source in (REPOSITORY / "crates").glob("*/src"):
+        shutil.copytree(source, folder / "crates" / source.parent.name)
     (folder / "empty").touch()
     (folder / ("long" * 63)).write_bytes(draw.randbytes(5000))
     (folder / "größe — 大きさ").write_bytes(draw.randbytes(1))
-    (folder / "random").write_bytes(draw.randbytes(3 * MIB + 1))
+    (folder / "random").write_bytes(draw.randbytes(3 * MIB + 1))  # another one in each tree
     (folder / "link").symlink_to("docs/FORMAT.md")
     with open(folder / "holes", "wb") as file:
         file.seek(700_000)
@@ -842,35 +865,37 @@ def compare_file_system(server, volume, tree, folder):
             same_listing(listing(mount), tree, f"volume {volume}")
 
 
-def fill_file_system(server, volume, source, folder):
-    with FuseFile(server.uri(volume), folder / f"fuse{volume}") as file:
-        run("mkfs.ext4", "-q", "-F", file)
-        with mounted(file, folder / f"mount{volume}") as mount:
-            # cp: shutil.copytree would also copy times, for which the file system's resolution is another.
-            run("cp", "-a", f"{source}/.", mount)
-        run("e2fsck", "-fn", file)
+def fill_file_systems(server, sources, folder):
+    """A file system in each volume, all mounted at once; the trees are copied in part by part, by turns."""
+    with contextlib.ExitStack() as stack:
+        mounts = []
+        for volume in range(len(sources)):
+            file = stack.enter_context(FuseFile(server.uri(volume), folder / f"fuse{volume}"))
+            run("mkfs.ext4", "-q", "-F", file)
+            mounts.append(stack.enter_context(mounted(file, folder / f"mount{volume}")))
+        for name in os.listdir(sources[0]):
+            for source, mount in zip(sources, mounts):
+                run("cp", "-a", source / name, mount)
 
 
 @test
 def ext4(folder, draw):
     try_mounts(folder / "trial")
     stick = Stick(folder / "stick", 4096, 256, 56, [32, 40])
+    sources = [folder / f"tree{volume}" for volume in (0, 1)]
+    for source in sources:
+        make_tree(source, draw)
+    trees = [listing(source) for source in sources]
     any_alignment = ["--filter=blocksize"]
-    trees = []
     with Server(stick, filters=any_alignment) as server:
-        for volume in (1, 0):
-            source = folder / f"tree{volume}"
-            make_tree(source, draw)
-            (source / "volume").write_text(f"this is volume {volume}\n")
-            fill_file_system(server, volume, source, folder)
-            trees.insert(0, listing(source))
+        fill_file_systems(server, sources, folder)
     with Server(stick, filters=any_alignment) as server:
         for volume in (0, 1):
             compare_file_system(server, volume, trees[volume], folder)
     with Server(stick, 0, filters=any_alignment) as server:
         same(list(nbdinfo_exports(server)), ["0"], "exports with the lower key")
-        compare_file_system(server, 0, trees[0], folder)
         refused_name(server, "1")
+        compare_file_system(server, 0, trees[0], folder)
     bytes_held = sum(len(entry[2] or "") for tree in trees for entry in tree.values())
     return f"{sum(map(len, trees))} names with {bytes_held} bytes in 2 file systems, 3 openings"
 
@@ -899,10 +924,10 @@ def ext4_unmounted(folder, draw):
 
 @test
 def turns(folder, draw):
-    seconds = float(os.environ.get("HIWALGAM_TURNS_SECONDS", "100"))
+    seconds = float(os.environ.get("HIWALGAM_TURNS_SECONDS", "120"))
     stick = Stick(folder / "stick", 1024, 4, 24, [20, 18])
     model = Model(stick)
-    counts = dict.fromkeys(("changes", "refused", "compared", "whole", "fullest"), 0)
+    counts = dict.fromkeys(("changes", "when_full", "refused", "compared", "whole"), 0)
     end = time.monotonic() + seconds
     with Server(stick) as server:
         handles = server.connect_all()
@@ -916,23 +941,23 @@ def turns(folder, draw):
         counts["compared"] += compare_all(handles, model)
     for volume in (0, 1):
         same_bytes(stick.get(volume), model.contents[volume], f"volume {volume}, by the command")
-    expect(counts["refused"] > 0 and counts["fullest"] > 0, "the stick was never full")
-    return (f"{counts['changes']} changes, {counts['fullest']} of them on a full stick, {counts['refused']} claims refused, "
-            f"{counts['compared']} blocks compared, {counts['whole']} times both volumes whole")
+    expect(counts["refused"] > 0, "the stick was never full")
+    return (f"{counts['changes']} changes, {counts['when_full']} of them on a full stick, {counts['refused']} claims "
+            f"refused, {counts['compared']} blocks compared, {counts['whole']} times both volumes whole")
 
 
 def take_turn(handles, model, draw, counts):
     """A change of one volume; then random blocks of the other are compared."""
     volume = draw.randrange(2)
-    counts["fullest"] += model.free() == 0
+    counts["when_full"] += model.free() == 0
     change = draw_change(draw, model.stick, volume, {"write": 12, "trim": 4, "zero": 3})
     counts["refused"] += not change_both(handles, model, change)
     counts["changes"] += 1
-    size = model.stick.block_bytes
+    size, other = model.stick.block_bytes, 1 - volume
     for _ in range(3):
-        address = draw.randrange(model.stick.blocks(1 - volume))
-        found = handles[1 - volume].pread(size, address * size)
-        same_bytes(found, model.block(1 - volume, address), f"block {address} of volume {1 - volume} after a {change.kind} of the other")
+        address = draw.randrange(model.stick.blocks(other))
+        what = f"block {address} of volume {other} after a {change.kind} of the other"
+        same_bytes(handles[other].pread(size, address * size), model.block(other, address), what)
         counts["compared"] += 1
 
 
@@ -940,7 +965,7 @@ def take_turn(handles, model, draw, counts):
 def killed_between(folder, draw):
     sticks = [Stick(folder / "small", 1024, 4, 24, [16, 12, 8]), Stick(folder / "large", 4096, 16, 12, [8, 8, 4])]
     models = [Model(stick) for stick in sticks]
-    rounds, requests, compared = 60, 0, 0
+    rounds, requests, compared = 120, 0, 0
     for turn in range(rounds):
         model = models[turn % 2]
         with Server(model.stick) as server:
@@ -962,31 +987,31 @@ def killed_between(folder, draw):
 def killed_inside(folder, draw):
     """Tried, with no claim: what a kill inside a request leaves is not promised."""
     stick = Stick(folder / "stick", 4096, 16, 160, [80, 80])
-    counts = dict.fromkeys(("opened", "refused", "acknowledged", "as_written", "under_way", "others", "changed"), 0)
+    counts = dict.fromkeys(("opened", "acknowledged", "as_written", "unanswered", "others", "changed"), 0)
     held = None
     rounds = 40
     for _ in range(rounds):
         held = held or [bytearray(stick.size(volume)) for volume in (0, 1)]
-        acknowledged, under_way = kill_inside(stick, held, draw)
+        acknowledged, unanswered = kill_inside(stick, draw)
+        counts["unanswered"] += len(unanswered)
         found = open_again(stick)
-        counts["opened" if found else "refused"] += 1
         if found:
-            judge_kill(found, held, acknowledged, under_way, counts)
+            counts["opened"] += 1
+            judge_kill(found, held, acknowledged, unanswered, counts)
         else:
             stick.format()
         held = found
-    return (f"{rounds} kills with {counts['under_way']} requests unanswered; the stick opened again {counts['opened']} times; "
-            f"{counts['as_written']} of {counts['acknowledged']} acknowledged blocks as written; {counts['changed']} of "
-            f"{counts['others']} blocks of no such request changed")
+    return (f"{rounds} kills with {counts['unanswered']} requests unanswered; the stick opened again "
+            f"{counts['opened']} times; {counts['as_written']} of {counts['acknowledged']} acknowledged blocks as "
+            f"written; {counts['changed']} of {counts['others']} blocks that no request named changed")
 
 
-def kill_inside(stick, held, draw):
+def kill_inside(stick, draw):
     """Sends writes and kills the server before all are answered; gives the acknowledged and the other writes."""
-    writes, done = draw_apart(stick, draw), set()
+    writes, answers = draw_apart(stick, draw), {}
 
     def completed(place, error):
-        if error.value == 0:
-            done.add(place)
+        answers[place] = error.value
         return 1  # the request needs no more of its answer
 
     with Server(stick) as server:
@@ -994,14 +1019,15 @@ def kill_inside(stick, held, draw):
         for place, write in enumerate(writes):
             buffer = nbd.Buffer.from_bytearray(bytearray(write.data))
             handles[write.volume].aio_pwrite(buffer, write.first * 4096, completion=functools.partial(completed, place))
-        enough = draw.randrange(len(writes))
-        while len(done) < enough:
+        enough, end = draw.randrange(len(writes)), time.monotonic() + PATIENCE
+        while len(answers) < enough and time.monotonic() < end:
             for handle in handles:
                 handle.poll(1)
         time.sleep(draw.uniform(0, 0.001))
         server.kill()
         drain(handles)
-    return [w for i, w in enumerate(writes) if i in done], [w for i, w in enumerate(writes) if i not in done]
+    acknowledged = [write for place, write in enumerate(writes) if answers.get(place) == 0]
+    return acknowledged, [write for place, write in enumerate(writes) if answers.get(place) != 0]
 
 
 def draw_apart(stick, draw):
@@ -1034,26 +1060,22 @@ def open_again(stick):
         return None
 
 
-def judge_kill(found, held, acknowledged, under_way, counts):
+def judge_kill(found, held, acknowledged, unanswered, counts):
     """Counts blocks: acknowledged and as written, and changed although no request named them."""
     due = {}
     for change in acknowledged:
         for place in range(change.count):
             due[change.volume, change.first + place] = change.data[place * 4096:(place + 1) * 4096]
-    open_blocks = {(change.volume, change.first + place) for change in under_way for place in range(change.count)}
-    counts["under_way"] += len(under_way)
+    left_open = {(change.volume, change.first + place) for change in unanswered for place in range(change.count)}
     for volume, content in enumerate(found):
         for address in range(len(content) // 4096):
-            place = (volume, address)
-            block = content[address * 4096:(address + 1) * 4096]
-            if place in open_blocks:
-                continue
-            if place in due:
+            part = slice(address * 4096, (address + 1) * 4096)
+            if (volume, address) in due:
                 counts["acknowledged"] += 1
-                counts["as_written"] += block == due[place]
-            else:
+                counts["as_written"] += content[part] == due[volume, address]
+            elif (volume, address) not in left_open:
                 counts["others"] += 1
-                counts["changed"] += block != held[volume][address * 4096:(address + 1) * 4096]
+                counts["changed"] += content[part] != held[volume][part]
 
 
 @test
@@ -1061,26 +1083,32 @@ def fresh_ivs(folder, draw):
     """What a write or a release takes of the tape no other one took, also when the tape was filled again."""
     stick = Stick(folder / "stick", 1024, 2, 1, [1])
     seen = []
-
-    def take(image, block, count=1):
-        seen.extend(image[at:at + 16] for at in range(block * 1024, block * 1024 + 16 * count, 16))
-
     for _ in range(2):
         with Server(stick) as server, open(stick.image, "rb") as file:
-            handle = server.connect(0)
             with mmap.mmap(file.fileno(), 0, prot=mmap.PROT_READ) as image:
-                for _ in range(100):
-                    # Device block 2 is the map block of volume 0, block 31 the IV block of the one slice.
-                    handle.pwrite(draw.randbytes(1024), 0)
-                    take(image, 2)
-                    take(image, 31, 2)
-                    for _ in range(100):
-                        handle.pwrite(draw.randbytes(1024), 0)
-                        take(image, 31)
-                    handle.trim(2048, 0)
-                    take(image, 2)
+                seen += stored_ivs(server.connect(0), image, draw)
     same(len(set(seen)), len(seen), "different IVs")
     return f"{len(seen)} IVs, all different"
+
+
+def stored_ivs(handle, image, draw):
+    """Claims, rewrites and releases the one slice of a stick; gives the IVs that each call stored."""
+    seen = []
+
+    def take(block, count=1):
+        seen.extend(image[at:at + 16] for at in range(block * 1024, block * 1024 + 16 * count, 16))
+
+    for _ in range(100):
+        # Device block 2 is the map block of volume 0, block 31 the IV block of the slice.
+        handle.pwrite(draw.randbytes(1024), 0)
+        take(2)
+        take(31, 2)
+        for _ in range(100):
+            handle.pwrite(draw.randbytes(1024), 0)
+            take(31)
+        handle.trim(2048, 0)
+        take(2)
+    return seen
 
 
 # A full stick, refusals, locks, closing
@@ -1120,34 +1148,38 @@ def refusals(folder, draw):
     # 10 slices of 6 blocks are as long as 12 of 5: with slice-blocks=4 the length fits, and the header does not.
     stick = Stick(folder / "stick", 1024, 5, 10, [10, 5])
     stick.command("put", 1, input=draw.randbytes(9000))
-    other, short = folder / "other", folder / "short"
-    other.write_bytes(draw.randbytes(32))
-    short.write_bytes(stick.keys[0].read_bytes()[:31])
-    stick.keys[0].with_name("long").write_bytes(stick.keys[0].read_bytes() + b"x")
-    images = {"longer": stick.image.read_bytes() + b"x", "shorter": stick.image.read_bytes()[:-1], "empty": b"", "tiny": bytes(100)}
-    for name, content in images.items():
-        (folder / name).write_bytes(content)
-    cases = [("a wrong key", r"refused by 6\b", {"secret": f"key={other}"}),
-             ("a key of 31 bytes", r"refused by 3\b", {"secret": f"key={short}"}),
-             ("a key of 33 bytes", r"refused by 3\b", {"secret": f"key={stick.folder / 'long'}"}),
-             ("slice-blocks whose length fits", r"refused by 8\b", {"slice_blocks": 4}),
-             ("slice-blocks whose length does not fit", r"refused by 2\b", {"slice_blocks": 7}),
-             ("slice-blocks above B / 16", r"refused by 1\b", {"slice_blocks": 65}),
-             ("slice-blocks 0", r"refused by 1\b|slice-blocks", {"slice_blocks": 0}),
-             ("another block-bytes", r"refused by 2\b", {"block_bytes": 4096}),
-             ("block-bytes that is not allowed", r"refused by 1\b", {"block_bytes": 2048}),
-             ("block-bytes that is no number", "block-bytes", {"block_bytes": "many"}),
-             ("no such key file", "(?i)no such file", {"secret": f"key={folder / 'none'}"}),
-             ("no such image", "(?i)no such file", {"image": folder / "none"}),
-             ("an empty passphrase", "(?i)passphrase", {"secret": "passphrase="})]
-    cases += [(f"an image that is {name}", r"refused by 2\b", {"image": folder / name}) for name in images]
-    before = {path: fingerprint(path) for path in (stick.image, *(folder / name for name in images))}
+    content, key = stick.image.read_bytes(), stick.keys[0].read_bytes()
+    files = {"longer": content + b"x", "shorter": content[:-1], "empty": b"", "tiny": bytes(100),
+             "other": draw.randbytes(32), "key31": key[:31], "key33": key + b"x"}
+    for name, text in files.items():
+        (folder / name).write_bytes(text)
+    cases = refusal_cases(folder)
+    before = {path: fingerprint(path) for path in (stick.image, *(folder / name for name in files))}
     for what, message, changes in cases:
         said = Server(stick, 1, **changes).refused()
-        expect(re.search(message, said), f"{what}: the message has no {message!r}: {said.strip()[-200:]!r}")
+        expect(re.search(message, said), f"{what}: the message has no {message!r}: {said[-200:]!r}")
         for path, due in before.items():
             same(fingerprint(path), due, f"{what}: the bytes of {path.name}")
     return f"{len(cases)} starts refused, images unchanged"
+
+
+def refusal_cases(folder):
+    """What is wrong, a pattern of the message, and how the server's parameters differ from right ones."""
+    cases = [("a wrong key", r"refused by 6\b", {"secret": f"key={folder / 'other'}"}),
+             ("a key of 31 bytes", r"refused by 3\b", {"secret": f"key={folder / 'key31'}"}),
+             ("a key of 33 bytes", r"refused by 3\b", {"secret": f"key={folder / 'key33'}"}),
+             ("no such key file", "(?i)no such file", {"secret": f"key={folder / 'none'}"}),
+             ("an empty passphrase", "(?i)passphrase", {"secret": "passphrase="}),
+             ("slice-blocks whose length fits", r"refused by 8\b", {"slice_blocks": 4}),
+             ("slice-blocks whose length does not fit", r"refused by 2\b", {"slice_blocks": 7}),
+             ("slice-blocks above B / 16", r"refused by 1\b", {"slice_blocks": 65}),
+             ("slice-blocks 0", r"refused by 1\b", {"slice_blocks": 0}),
+             ("another block-bytes", r"refused by 2\b", {"block_bytes": 4096}),
+             ("block-bytes that is not allowed", r"refused by 1\b", {"block_bytes": 2048}),
+             ("block-bytes that is no number", "block-bytes", {"block_bytes": "many"}),
+             ("no such image", "(?i)no such file", {"image": folder / "none"})]
+    images = ("longer", "shorter", "empty", "tiny")
+    return cases + [(f"an image that is {name}", r"refused by 2\b", {"image": folder / name}) for name in images]
 
 
 def holds_lock(path):
@@ -1260,29 +1292,82 @@ def closing(folder, draw):
     return f"{stick.blocks(0) + stick.blocks(1)} blocks as written, by the command"
 
 
+def runs(process, server):
+    """Whether a process is that server still: one that has ended has no command line."""
+    try:
+        return os.fsencode(server.socket) in pathlib.Path(f"/proc/{process}/cmdline").read_bytes()
+    except OSError:
+        return False
+
+
 @test
 def background(folder, draw):
-    """nbdkit makes itself a process in the background after the session has begun: lock and session go along."""
+    """nbdkit goes into the background after the session has begun: lock and session go along."""
     stick = Stick(folder / "stick", 4096, 4, 6, [6])
-    server, ready = Server(stick), folder / "ready"
+    # It also changes to another folder, for which relative names are not to matter.
+    server, ready = Server(stick, image="image", secret="key=key0"), folder / "ready"
     text = draw.randbytes(stick.size(0))
-    run(*server.line("-P", ready))
+    run(*server.line("-P", ready), cwd=stick.folder)
     expect(wait_for(lambda: written(ready)), "the server did not start")
     process = int(ready.read_text())
     try:
         expect(holds_lock(stick.image), "no process holds a lock on the image while the server runs")
-        expect("in use" in Server(stick).refused(), "a second server")
+        said = Server(stick).refused()
+        expect("in use" in said, f"a second server: {said[-200:]!r}")
         handle = server.connect(0)
         handle.pwrite(text, 0)
         same_bytes(read_all(handle), text, "what was written")
         handle.shutdown()
         os.kill(process, signal.SIGTERM)
-        expect(wait_for(lambda: not os.path.exists(f"/proc/{process}")), "the server did not end after SIGTERM")
+        expect(wait_for(lambda: not runs(process, server)), "the server did not end after SIGTERM")
     finally:
-        with contextlib.suppress(ProcessLookupError):
+        if runs(process, server):
             os.kill(process, signal.SIGKILL)
     same_bytes(stick.get(0), text, "volume 0, by the command")
     return f"{len(text)} bytes written and read"
+
+
+@contextlib.contextmanager
+def loop_device(image, *options):
+    """A block device over an image; skips the test where there can be none."""
+    try:
+        device = run("losetup", "--find", "--show", *options, image)[0].strip()
+    except (Failed, OSError) as error:
+        raise Skipped(f"no loop device here: {' '.join(str(error).split())[:200]}") from None
+    try:
+        yield device
+    finally:
+        run("losetup", "--detach", device)
+
+
+@contextlib.contextmanager
+def exclusively(device):
+    """Holds a block device as a mount does."""
+    descriptor = os.open(device, os.O_RDONLY | os.O_EXCL)
+    try:
+        yield
+    finally:
+        os.close(descriptor)
+
+
+@test
+def block_device(folder, draw):
+    stick = Stick(folder / "stick", 4096, 4, 6, [6])
+    text = draw.randbytes(stick.size(0))
+    with loop_device(stick.image) as device:
+        with Server(stick, image=device) as server:
+            server.connect(0).pwrite(text, 0)
+            said = Server(stick, image=device).refused()
+            expect("in use" in said, f"a second server: {said[-200:]!r}")
+        with exclusively(device):
+            said = Server(stick, image=device).refused()
+            expect("in use" in said, f"a server on a device that is in use as by a mount: {said[-200:]!r}")
+    same_bytes(stick.get(0), text, "volume 0, by the command")
+    before = fingerprint(stick.image)
+    with loop_device(stick.image, "--read-only") as device, Server(stick, image=device) as server:
+        check_read_only(server, text)
+    same(fingerprint(stick.image), before, "the image after it was served read-only")
+    return f"{len(text)} bytes written and read, 3 changes of a read-only device refused"
 
 
 # Passphrases
@@ -1290,11 +1375,10 @@ def background(folder, draw):
 
 def argon2id(passphrase, salt):
     """The key of a passphrase as the two programs have to make it, by libargon2 called from here."""
-    key = ctypes.create_string_buffer(32)
-    library = ctypes.CDLL("libargon2.so.1")
-    answer = library.argon2id_hash_raw(3, 65536, 4, passphrase, ctypes.c_size_t(len(passphrase)), salt, ctypes.c_size_t(16), key,
-                                       ctypes.c_size_t(32))
-    same(answer, 0, "answer of argon2id_hash_raw")
+    key, size = ctypes.create_string_buffer(32), ctypes.c_size_t
+    make = ctypes.CDLL("libargon2.so.1").argon2id_hash_raw
+    # 3 passes, 65,536 KiB, 4 lanes.
+    same(make(3, 65536, 4, passphrase, size(len(passphrase)), salt, size(len(salt)), key, size(32)), 0, "Argon2id")
     return key.raw
 
 
@@ -1320,7 +1404,8 @@ class SecretStick(Stick):
         (self.folder / "line").write_bytes(phrase + b"\n")
         with open(self.folder / "line", "rb") as line:
             options = [*self.geometry(), "--passphrase-fd", line.fileno()]
-            return run(COMMAND, arguments[0], self.image, *arguments[1:], *options, status=status, pass_fds=[line.fileno()])
+            return run(COMMAND, arguments[0], self.image, *arguments[1:], *options, status=status,
+                       pass_fds=[line.fileno()])
 
 
 @test
@@ -1344,9 +1429,9 @@ def passphrases(folder, draw):
     wrong = [stick.phrases[0].strip(), stick.phrases[1] + b" ", stick.phrases[1][:-1], b"x"]
     for phrase in wrong:
         said = Server(stick, secret=stick.secret(phrase)).refused()
-        expect(re.search(r"refused by 6\b", said), f"plugin, wrong passphrase: {said.strip()[-200:]!r}")
+        expect(re.search(r"refused by 6\b", said), f"plugin, wrong passphrase: {said[-200:]!r}")
         said = stick.by_phrase(phrase, "check", status=1)[1]
-        expect(re.search(r"refused by 6\b", said), f"command, wrong passphrase: {said.strip()[-200:]!r}")
+        expect(re.search(r"refused by 6\b", said), f"command, wrong passphrase: {said[-200:]!r}")
     same(fingerprint(stick.image), before, "the image after wrong passphrases")
     return f"2 passphrases right both ways, {len(wrong)} wrong ones refused both ways"
 
@@ -1401,9 +1486,8 @@ class Beside:
                                         env={**os.environ, "HIWALGAM_SEED": str(seed), "TMPDIR": str(folder)})
 
     def line(self):
-        lines = self.process.communicate()[0].splitlines()
-        line = next((line for line in lines if line.startswith(f"{self.name}: ")), f"{self.name}: failed: it ended without a line")
-        return line, self.process.returncode == 0
+        lines = [line for line in self.process.communicate()[0].splitlines() if line.startswith(f"{self.name}: ")]
+        return (lines or [f"{self.name}: failed: it ended without a line"])[0], self.process.returncode == 0
 
     def end(self):
         if self.process.poll() is None:
@@ -1432,17 +1516,22 @@ def run_all(names, folder, seed):
     return results
 
 
+def usage_error(words):
+    print(words, file=sys.stderr)
+    return 2
+
+
 def main():
     names = sys.argv[1:] or list(TESTS)
-    unknown = [name for name in names if name not in TESTS]
-    missing = [program for program in (COMMAND, PLUGIN) if not program.exists()]
-    if unknown or missing:
-        print(f"no such test: {' '.join(unknown)}; there are: {' '.join(TESTS)}" if unknown else f"no {missing[0]}: tools/programs builds it",
-              file=sys.stderr)
-        return 2
+    for name in names:
+        if name not in TESTS:
+            return usage_error(f"no test {name}; there are: {' '.join(TESTS)}")
+    for program in (COMMAND, PLUGIN):
+        if not program.exists():
+            return usage_error(f"no {program}: tools/programs builds it")
     # A signal unwinds the contexts that end servers and undo mounts.
-    for number_of in (signal.SIGTERM, signal.SIGHUP, signal.SIGINT):
-        signal.signal(number_of, lambda received, _frame: sys.exit(128 + received))
+    for name in (signal.SIGTERM, signal.SIGHUP, signal.SIGINT):
+        signal.signal(name, lambda received, _frame: sys.exit(128 + received))
     seed = os.environ.get("HIWALGAM_SEED") or random.SystemRandom().randrange(1 << 32)
     print(f"seed {seed}", flush=True)
     folder = workplace()

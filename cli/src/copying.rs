@@ -62,8 +62,9 @@ fn copy_out(
 pub fn put(options: &Put) -> Outcome {
     let source = Source::of(&options.stick.access)?;
     let mut input = Input::open(options.file.as_ref())?;
-    let length = input.length()?;
     let mut stick = Stick::open_to_write(&options.stick, source)?;
+    // A passphrase may have stood before it, in the same file.
+    let length = input.length()?;
     let block_bytes = stick.geometry().block_bytes;
     let blocks = length.map_or(1, |length| length.div_ceil(block_bytes).max(1));
     // The last block of a regular file, and the first of anything else, is asked for first: nothing is
@@ -106,8 +107,9 @@ fn copy_in(
         if filled == 0 {
             break;
         }
-        if filled < buffer.len() {
-            // A last part block keeps the rest of the block.
+        let is_last = filled < buffer.len();
+        if is_last {
+            // A part block keeps the rest of the block.
             stick.read(volume, address, &mut rest)?;
             buffer[filled..].copy_from_slice(&rest[filled..]);
         }
@@ -119,6 +121,9 @@ fn copy_in(
             counts.claimed += u64::from(matches!(change, Change::Claimed(_)));
         }
         progress.add(filled as u64);
+        if is_last {
+            break;
+        }
     }
     Ok(())
 }

@@ -12,8 +12,6 @@ pub type Outcome<T = ()> = Result<T, Failure>;
 pub enum Failure {
     /// The engine refused a call. The words come after the advice, and may be none.
     Refused(Refusal, String),
-    /// Some refusals on the way, which are told already.
-    SomeRefused,
     /// What was asked cannot be meant.
     Usage(String),
     /// The operating system, with what failed and, where it has some, its words.
@@ -30,7 +28,7 @@ impl Failure {
 
     pub fn exit_status(&self) -> u8 {
         match self {
-            Failure::Refused(..) | Failure::SomeRefused => 1,
+            Failure::Refused(..) => 1,
             Failure::Usage(_) => 2,
             Failure::System(..) | Failure::Interrupted(_) => 3,
         }
@@ -43,7 +41,6 @@ impl Failure {
                 complain(named(*refusal));
                 tell_line(&format!("what to do: {}{words}", advice(*refusal)));
             }
-            Failure::SomeRefused => {}
             Failure::Usage(words) => complain(words),
             Failure::System(what, None) => complain(what),
             Failure::System(what, Some(error)) => complain(format!("{what}: {error}")),

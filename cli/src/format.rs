@@ -129,9 +129,11 @@ fn store(path: &Path, there: Option<Locked>, plan: Plan, progress: &Progress) ->
     let Some(locked) = there else {
         let mut options = OpenOptions::new();
         let made = options.read(true).write(true).create_new(true).open(path);
-        let locked = Locked::lock(path, made.map_err(failed)?);
-        let done = locked.and_then(|locked| fill(locked, plan, progress));
-        return done.inspect_err(|_| drop(fs::remove_file(path)));
+        let made = made.map_err(failed)?;
+        // Holds the lock until the file is gone: nobody else can have begun to use it.
+        let _holding = made.try_clone().map_err(failed)?;
+        let locked = Locked::lock(path, made)?;
+        return fill(locked, plan, progress).inspect_err(|_| drop(fs::remove_file(path)));
     };
     let (file, before) = (locked.file.try_clone().map_err(failed)?, locked.length);
     // On a block device the length stays, and setting it fails.
@@ -146,6 +148,7 @@ fn fill(mut locked: Locked, mut plan: Plan, progress: &Progress) -> Outcome {
     if is_file {
         locked.reserve(length as u64)?;
     }
+    signals::check()?;
     let mut image = locked.map_mut()?;
     plan.format(&mut image.bytes[..length])?;
     progress.now("storing");

@@ -15,8 +15,24 @@ const IN_USE: &str = "is in use by another session";
 /// The kernel's number, linux/fs.h, for the question whether a block device takes no writes.
 const BLKROGET: libc::c_ulong = 0x125e;
 
-/// Device and inode numbers.
-pub type Identity = (u64, u64);
+/// What tells files apart: of a block device its number, whichever node names it.
+#[derive(Clone, Copy, PartialEq)]
+pub enum Identity {
+    Device(u64),
+    Inode { device: u64, number: u64 },
+}
+
+impl Identity {
+    pub fn of(metadata: &Metadata) -> Identity {
+        match metadata.file_type().is_block_device() {
+            true => Identity::Device(metadata.rdev()),
+            false => Identity::Inode {
+                device: metadata.dev(),
+                number: metadata.ino(),
+            },
+        }
+    }
+}
 
 /// An image that is open and locked: no other session has it until this is dropped.
 pub struct Locked {
@@ -40,7 +56,9 @@ impl Locked {
             options.custom_flags(libc::O_EXCL);
         }
         match options.open(path) {
-            Err(error) if error.kind() == ErrorKind::ResourceBusy => Err(wrong(path, IN_USE)),
+            Err(error) if error.kind() == ErrorKind::ResourceBusy => {
+                Err(wrong(path, &format!("{IN_USE}, or mounted")))
+            }
             Ok(file) if writes && is_read_only(&file) => {
                 Err(failed(io::Error::from_raw_os_error(libc::EROFS)))
             }
@@ -117,8 +135,7 @@ impl Locked {
     }
 
     pub fn identity(&self) -> Outcome<Identity> {
-        let metadata = self.metadata()?;
-        Ok((metadata.dev(), metadata.ino()))
+        Ok(Identity::of(&self.metadata()?))
     }
 
     fn metadata(&self) -> Outcome<Metadata> {
@@ -156,18 +173,18 @@ fn is_read_only(file: &File) -> bool {
     answered == 0 && read_only != 0
 }
 
-pub fn is_same_file(metadata: &Metadata, identity: Identity) -> bool {
-    (metadata.dev(), metadata.ino()) == identity
-}
-
 /// Reserves room on the disk for the first bytes of a file, which is as long at least afterwards.
 pub fn reserve(file: &File, length: u64) -> io::Result<()> {
     let length = libc::off_t::try_from(length).map_err(|_| ErrorKind::FileTooLarge)?;
-    // SAFETY: the descriptor is open.
-    match unsafe { libc::posix_fallocate(file.as_raw_fd(), 0, length) } {
-        0 => Ok(()),
-        // The number is returned; errno stays.
-        number => Err(io::Error::from_raw_os_error(number)),
+    loop {
+        // SAFETY: the descriptor is open.
+        match unsafe { libc::posix_fallocate(file.as_raw_fd(), 0, length) } {
+            0 => return Ok(()),
+            // A signal came, which is looked at afterwards.
+            libc::EINTR => {}
+            // The number is returned; errno stays.
+            number => return Err(io::Error::from_raw_os_error(number)),
+        }
     }
 }
 

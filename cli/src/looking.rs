@@ -1,6 +1,6 @@
 //! `info`, `volumes`, `check`, `shuffle`: tell what a stick has, and write nothing to it.
 
-use hiwalgam::{Geometry, IV_BYTES, VOLUMES};
+use hiwalgam::{Geometry, Refusal, IV_BYTES, VOLUMES};
 use memmap2::Mmap;
 
 use crate::arguments;
@@ -71,25 +71,32 @@ pub fn check(options: &arguments::Stick) -> Outcome {
     let block_bytes = stick.geometry().block_bytes;
     let blocks: u64 = stick.volumes().map(|volume| stick.blocks(volume)).sum();
     let progress = Progress::new("checking", Some(blocks * block_bytes));
-    let mut refused = 0;
+    let mut refused = Vec::new();
     for volume in stick.volumes() {
-        refused += check_volume(&stick, volume, &progress)?;
+        check_volume(&stick, volume, &progress, &mut refused)?;
     }
     drop(progress);
-    if refused > 0 {
-        complain(format_args!("{} blocks were refused", grouped(refused)));
-        return Err(Failure::SomeRefused);
+    match refused.first() {
+        Some(refusal) => {
+            let words = format!("; {} blocks were refused", grouped(refused.len() as u64));
+            Err(Failure::Refused(*refusal, words))
+        }
+        None => say(format_args!(
+            "all blocks of volumes 0 to {} were read",
+            stick.volumes().end()
+        )),
     }
-    say(format_args!(
-        "all blocks of volumes 0 to {} were read",
-        stick.volumes().end()
-    ))
 }
 
-/// Reads every block, and gives how many the engine refused.
-fn check_volume(stick: &Stick<Mmap>, volume: u64, progress: &Progress) -> Outcome<u64> {
+/// Reads every block, and notes what the engine refused.
+fn check_volume(
+    stick: &Stick<Mmap>,
+    volume: u64,
+    progress: &Progress,
+    refused: &mut Vec<Refusal>,
+) -> Outcome {
     let mut buffer = stick.buffer();
-    let (mut read, mut refused) = (0, 0);
+    let mut read = 0;
     for address in 0..stick.blocks(volume) {
         signals::check().map_err(|_| {
             let words = format!("volume {volume}: {} blocks read", grouped(read));
@@ -98,7 +105,7 @@ fn check_volume(stick: &Stick<Mmap>, volume: u64, progress: &Progress) -> Outcom
         match stick.read(volume, address, &mut buffer) {
             Ok(()) => read += 1,
             Err(refusal) => {
-                refused += 1;
+                refused.push(refusal);
                 let words = format!("volume {volume}, block {address}: {}", named(refusal));
                 progress.aside(|| complain(words));
             }
@@ -114,8 +121,7 @@ fn check_volume(stick: &Stick<Mmap>, volume: u64, progress: &Progress) -> Outcom
         grouped(mapped),
         grouped(stick.blocks(volume) - in_slices),
     );
-    progress.aside(|| say(words))?;
-    Ok(refused)
+    progress.aside(|| say(words))
 }
 
 pub fn shuffle(options: &arguments::Stick) -> Outcome {

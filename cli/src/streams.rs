@@ -8,7 +8,7 @@ use std::os::unix::fs::{FileTypeExt, OpenOptionsExt};
 use std::path::{Path, PathBuf};
 
 use crate::failure::{Failure, Outcome};
-use crate::image::{is_same_file, Identity};
+use crate::image::Identity;
 use crate::signals;
 
 /// What a volume's blocks are copied to.
@@ -149,7 +149,7 @@ pub fn create(path: &Path, image: Identity) -> Outcome<File> {
 fn look(file: &File, name: &str, image: Identity) -> Outcome<Metadata> {
     let metadata = file.metadata();
     let metadata = metadata.map_err(|error| Failure::system(name, "looking at it", error))?;
-    match is_same_file(&metadata, image) {
+    match Identity::of(&metadata) == image {
         true => Err(Failure::Usage(format!("{name} is the stick itself"))),
         false => Ok(metadata),
     }

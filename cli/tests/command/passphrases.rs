@@ -135,23 +135,25 @@ fn hiwalgam_shell(script: &str) -> Command {
     shell
 }
 
-/// Line and text on one descriptor: the text is what follows the line, or the arguments are refused; no
-/// byte of the text may be lost.
+/// Line and text on one descriptor, a pipe or a file: the text is what follows the line, as long as the
+/// volume here.
 #[test]
 fn a_passphrase_and_a_text_on_one_descriptor() {
-    let folder = image_with(b"correct horse");
-    let before = fs::read(folder.join("image")).unwrap();
-    let text = blocks(3, 3);
-    let mut put = command(&folder, "put");
-    put.args(["0", "--passphrase-fd", "0"]);
-    let ended = run_fed(&mut put, &[b"correct horse\n", &text[..]].concat());
-    let device = fs::read(folder.join("image")).unwrap();
-    if ended.status.code() == Some(2) {
-        return assert!(device == before);
+    let text = blocks(3, 32);
+    let both = [b"correct horse\n", &text[..]].concat();
+    for is_file in [false, true] {
+        let folder = image_with(b"correct horse");
+        let mut put = command(&folder, "put");
+        put.args(["0", "--passphrase-fd", "0"]);
+        let ended = match is_file {
+            true => run(put.stdin(fs::File::open(folder.file("both", &both)).unwrap())),
+            false => run_fed(&mut put, &both),
+        };
+        ended.served();
+        let device = fs::read(folder.join("image")).unwrap();
+        let key = argon2id(b"correct horse", &device[..16]);
+        assert!(opened(&device, SMALL, &key).unwrap().texts[0] == text);
     }
-    ended.served();
-    let key = argon2id(b"correct horse", &device[..16]);
-    assert!(opened(&device, SMALL, &key).unwrap().texts[0][..3 * 1024] == text);
 }
 
 #[test]

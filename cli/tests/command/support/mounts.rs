@@ -27,7 +27,7 @@ pub fn is_root() -> bool {
 
 /// Says, past the test harness, which holds back what `println` prints, that a test did not run.
 pub fn skipped(test: &str) {
-    let line = format!("not run, since it needs root: {test}\n");
+    let line = format!("not run, since this machine does not allow it: {test}\n");
     io::stderr().write_all(line.as_bytes()).unwrap();
 }
 
