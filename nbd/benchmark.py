@@ -32,8 +32,9 @@ LUKS_KEY_BITS = 512  # XTS takes two keys: these are of 256 bits each
 
 def fio(server, *options):
     """Runs one job; gives its part of fio's report."""
-    output = run("fio", "--name=job", "--ioengine=nbd", f"--uri={server.uri()}", "--output-format=json", *options,
-                 cwd=server.folder)[0]
+    # --thread: the job is in fio's own process, and ends with it when it is killed.
+    output = run("fio", "--thread", "--name=job", "--ioengine=nbd", f"--uri={server.uri()}", "--output-format=json",
+                 *options, cwd=server.folder)[0]
     job = json.loads(output[output.index("{"):])["jobs"][0]
     if job["error"] != 0:
         raise SystemExit(f"fio: error {job['error']}")

@@ -725,6 +725,8 @@ verify_pattern="volume {volume}"%o
 FIO_HEAD = """
 [global]
 ioengine=nbd
+# One process, which ends with its jobs when it is killed.
+thread
 rw=randwrite
 iodepth=16
 verify=pattern

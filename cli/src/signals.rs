@@ -71,8 +71,9 @@ pub fn pause() -> Outcome {
     check()
 }
 
-/// Asks on the terminal. The read there begins again after a signal, so that a signal that comes meanwhile
-/// ends the process at once, with the terminal as it was.
+/// Asks on the terminal, which shows nothing of what is typed from before the question on. The read there
+/// begins again after a signal, so that a signal that comes meanwhile ends the process at once, with the
+/// terminal as it was.
 pub fn while_asking<T>(ask: impl FnOnce() -> T) -> Outcome<T> {
     if TERMINAL.get().is_none() {
         if let Ok(terminal) = terminal() {
@@ -81,9 +82,24 @@ pub fn while_asking<T>(ask: impl FnOnce() -> T) -> Outcome<T> {
     }
     ASKING.store(true, Ordering::SeqCst);
     // One that came before has ended nothing.
-    let answer = check().map(|()| ask());
+    let answer = check().map(|()| {
+        set_terminal(|state| state.c_lflag &= !libc::ECHO);
+        let answer = ask();
+        set_terminal(|_| {});
+        answer
+    });
     ASKING.store(false, Ordering::SeqCst);
     answer
+}
+
+/// Makes the terminal what it was at first, but for a change.
+fn set_terminal(change: impl FnOnce(&mut termios)) {
+    if let Some((file, state)) = TERMINAL.get() {
+        let mut state = *state;
+        change(&mut state);
+        // SAFETY: the descriptor is open, and the pointer valid. Where it fails, rpassword tells.
+        unsafe { libc::tcsetattr(file.as_raw_fd(), libc::TCSANOW, &state) };
+    }
 }
 
 fn terminal() -> io::Result<(File, termios)> {

@@ -133,6 +133,32 @@ fn a_device_that_is_read_only() {
     assert!(fs::read(device.path()).unwrap() == before);
 }
 
+/// The device is no file to write to, by whichever node it is named.
+#[test]
+fn the_device_as_the_file() {
+    let folder = Folder::new();
+    let Some(device) = device_over(&folder, &random(7, 72_704)) else {
+        return;
+    };
+    run(command(&folder, "format", device.path()).arg("--force")).served();
+    let before = fs::read(device.path()).unwrap();
+    let node = folder.join("node");
+    let made = Command::new("cp")
+        .arg("-a")
+        .arg(device.path())
+        .arg(&node)
+        .status();
+    assert!(made.unwrap().success());
+    for file in [device.path(), &node] {
+        let ended = run(command(&folder, "get", device.path()).arg("0").arg(file));
+        assert!(matches!(ended.status.code(), Some(2 | 3)), "{ended:#?}");
+        let mut map = command(&folder, "map", device.path());
+        let ended = run(map.arg("--svg").arg(file));
+        assert!(matches!(ended.status.code(), Some(2 | 3)), "{ended:#?}");
+        assert!(fs::read(device.path()).unwrap() == before);
+    }
+}
+
 /// A device that is mounted, or that another session has, is kept from being opened by the system itself.
 #[test]
 fn a_device_that_is_in_use() {

@@ -29,6 +29,15 @@ fn every_key_shows_its_volumes() {
 }
 
 #[test]
+fn a_blank_stick() {
+    let stick = Stick::small(1);
+    let expected = "opened to volume 0\n\
+        volume 0: 8 slices, 32 blocks, 32,768 bytes, 0 slices mapped\n\
+        slices: 8, 0 held by these volumes, 8 free or held by volumes above\n";
+    assert_eq!(run(&mut stick.command("volumes", 0)).served(), expected);
+}
+
+#[test]
 fn fifteen_volumes() {
     let counts: Vec<usize> = (1..=15).collect();
     let stick = Stick::new(geometry(1024, 1, 16), &counts);

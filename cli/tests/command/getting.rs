@@ -129,6 +129,9 @@ fn past_the_end() {
         &["--blocks", most],
         &["--first", most, "--blocks", most],
         &["--first", "1", "--blocks", most],
+        // Sums that 64 bits do not hold: what they leave would be blocks 0 and 3.
+        &["--first", most, "--blocks", "2"],
+        &["--first", "5", "--blocks", most],
     ];
     let before = random(6, 100);
     let file = stick.folder.file("text", &before);

@@ -75,7 +75,7 @@ fn few_slices() {
         assert_eq!(order, (0..8).collect::<Vec<_>>());
         assert!(!shuffled.more);
         // Two bytes for each place but one, and for each draw that is thrown away, which is rare.
-        assert!((14..=20).contains(&shuffled.drew) && shuffled.drew % 2 == 0);
+        assert!((14..=20).contains(&shuffled.drew) && shuffled.drew.is_multiple_of(2));
         expect_start(&shuffled, &stick.opened(key).owners);
         starts.insert(shuffled.start);
     }
@@ -108,7 +108,7 @@ fn each_session_has_another_order() {
             (32, 32, true)
         );
         assert!(shuffled.order.iter().all(|&slice| slice < 300));
-        assert!((598..=640).contains(&shuffled.drew) && shuffled.drew % 2 == 0);
+        assert!((598..=640).contains(&shuffled.drew) && shuffled.drew.is_multiple_of(2));
         expect_start(&shuffled, &owners);
         orders.insert(shuffled.order);
     }

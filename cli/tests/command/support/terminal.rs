@@ -115,11 +115,11 @@ impl Terminal {
         String::from_utf8_lossy(&self.shown).into_owned()
     }
 
-    /// Waits for a prompt, the screen's last words, and until what is typed is not shown.
+    /// Waits for a prompt, the screen's last words. What is typed from then on is not shown.
     #[track_caller]
     pub fn wait_for_prompt(&mut self, prompt: &str) {
         eventually(prompt, || self.screen().ends_with(prompt));
-        eventually("no echo at a prompt", || !self.echoes());
+        assert!(!self.echoes(), "echo at the prompt {prompt:?}");
     }
 
     /// Types a line.
