@@ -40,6 +40,11 @@ PROGRAMS = pathlib.Path(os.environ.get("HIWALGAM_PROGRAMS", REPOSITORY / "target
 COMMAND = PROGRAMS / "hiwalgam"
 PLUGIN = PROGRAMS / "nbdkit-hiwalgam-plugin.so"
 
+# Of Debian; tools/set-up installs them.
+OTHER_PROGRAMS = ["nbdkit", "nbdinfo", "nbdcopy", "nbdfuse", "fusermount3", "fio", "mkfs.ext4", "mke2fs", "e2fsck",
+                  "debugfs", "mount", "umount", "losetup"]
+os.environ["PATH"] += ":/usr/sbin:/sbin"  # which the path of a user may not have
+
 MIB = 1 << 20
 ROOM = 1 << 30  # bytes that the temporary folder needs
 PATIENCE = 60  # seconds after which a program counts as stuck
@@ -817,7 +822,7 @@ def try_mounts(folder):
             run("mkfs.ext4", "-q", "-F", file)
             with mounted(file, folder / "mount"):
                 pass
-    except (Failed, OSError) as error:
+    except Failed as error:
         raise Skipped(f"no loop mount of a file of nbdfuse here: {' '.join(str(error).split())[:200]}") from None
 
 
@@ -1266,7 +1271,7 @@ def read_only_mount(folder, draw):
             run("mount", "--bind", stick.folder, sight)
             stack.callback(unmount, sight)
             run("mount", "-o", "remount,ro,bind", sight)
-        except (Failed, OSError) as error:
+        except Failed as error:
             raise Skipped(f"no read-only bind mount here: {' '.join(str(error).split())[:200]}") from None
         with Server(stick, image=sight / "image") as server:
             check_read_only(server, due)
@@ -1334,7 +1339,7 @@ def loop_device(image, *options):
     """A block device over an image; skips the test where there can be none."""
     try:
         device = run("losetup", "--find", "--show", *options, image)[0].strip()
-    except (Failed, OSError) as error:
+    except Failed as error:
         raise Skipped(f"no loop device here: {' '.join(str(error).split())[:200]}") from None
     try:
         yield device
@@ -1531,6 +1536,9 @@ def main():
     for program in (COMMAND, PLUGIN):
         if not program.exists():
             return usage_error(f"no {program}: tools/programs builds it")
+    for program in OTHER_PROGRAMS:
+        if shutil.which(program) is None:
+            return usage_error(f"no {program}: tools/set-up installs it")
     # A signal unwinds the contexts that end servers and undo mounts.
     for name in (signal.SIGTERM, signal.SIGHUP, signal.SIGINT):
         signal.signal(name, lambda received, _frame: sys.exit(128 + received))
