@@ -66,7 +66,7 @@ static int on_config(const char *key, const char *value)
     return 0;
 }
 
-/* Judges the parameters together. Reads the key file: it can be standard input, which nbdkit closes after this. */
+/* Judges the parameters together. Reads the key file: it can be standard input, which nbdkit may close after this. */
 static int on_config_complete(void)
 {
     if (options.image == NULL) return misused("image=FILE is missing");

@@ -993,7 +993,14 @@ def killed_between(folder, draw):
 @test
 def killed_inside(folder, draw):
     """Tried, with no claim: what a kill inside a request leaves is not promised."""
-    stick = Stick(folder / "stick", 4096, 16, 160, [80, 80])
+    # On a stick that is used on, most writes are rewrites; on a blank one with one block in a slice, each claims.
+    used = kill_often(Stick(folder / "used", 4096, 16, 160, [80, 80]), draw, blank=False)
+    blank = kill_often(Stick(folder / "blank", 4096, 1, 1500, [750, 750]), draw, blank=True)
+    return f"on a stick in use: {used}; on blank ones with S 1: {blank}"
+
+
+def kill_often(stick, draw, blank):
+    """Kills a server of the stick as the kill before left it, or formatted anew; gives what was counted."""
     counts = dict.fromkeys(("opened", "acknowledged", "as_written", "unanswered", "others", "changed"), 0)
     held = None
     rounds = 40
@@ -1005,9 +1012,9 @@ def killed_inside(folder, draw):
         if found:
             counts["opened"] += 1
             judge_kill(found, held, acknowledged, unanswered, counts)
-        else:
+        if blank or not found:
             stick.format()
-        held = found
+        held = None if blank else found
     return (f"{rounds} kills with {counts['unanswered']} requests unanswered; the stick opened again "
             f"{counts['opened']} times; {counts['as_written']} of {counts['acknowledged']} acknowledged blocks as "
             f"written; {counts['changed']} of {counts['others']} blocks that no request named changed")
