@@ -3,6 +3,8 @@
 // The round keys are a record, made by `round_keys` and handed on by value. Inside this crate its array is lent. Whoever
 // encrypts copies the S-box out once and lends it (crate `field` says why).
 // Not promised: that the time taken, or the cache lines touched, are the same for all keys and blocks.
+#![tactic(auto)]
+
 ghost use Rattle.std.specs.Prelude.{◌≡◌, ◌<◌, ◌≤◌, length};
 ghost use Rattle.field.specs.Sbox.{IsSbox};
 ghost use Rattle.aes.specs.KeyExpansion.{word_at, rot_word, rcon, changed_word, next_word, key_expansion};
@@ -10,7 +12,7 @@ ghost use Rattle.aes.specs.Cipher.{round_key, cipher_state, cipher};
 ghost use Rattle.aes.specs.Theorems.{AesLaws};
 
 // The round keys of a key (5.2): the 60 words of the key schedule one after the other, four to each of the 15 round keys.
-#[derive(Drop)]
+#[derive(Clone, Copy)]
 pub struct RoundKeys {
     pub schedule: [u8; 240],
 }

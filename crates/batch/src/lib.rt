@@ -1,6 +1,8 @@
 // The cipher of AES-256 (FIPS 197, section 5.1) on up to 16 lanes, 16 blocks in each: every step of all lanes before the next step.
 //
 // No branch and no index depends on a word; how many lanes there are is no secret.
+#![tactic(auto)]
+
 ghost use Rattle.std.specs.Prelude.{◌≡◌, ◌≤◌};
 ghost use Rattle.lanes.specs.Lanes.{each_lane};
 ghost use Rattle.planes.specs.Rounds.{added_lane, mixed_lane, moved_lane};

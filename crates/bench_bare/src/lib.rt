@@ -2,6 +2,8 @@
 //
 // The key schedule is a bare array of 240 bytes, lent from function to function, and a byte of MIXCOLUMNS takes two products.
 // It is proved like the rest, so that the benchmark compares two forms of one definition.
+#![tactic(auto)]
+
 ghost use Rattle.std.specs.Prelude.{◌≡◌, ◌+◌, ◌*◌, ◌/◌, ◌^◌, ◌<◌, ◌≤◌, length};
 ghost use Rattle.block.specs.Number.{block_number};
 ghost use Rattle.field.specs.Sbox.{IsSbox};

@@ -2,6 +2,8 @@
 //
 // The product's counter mode takes the table for short texts. Here the same functions serve all of them, so that the benchmark can
 // compare both forms of one definition at one length.
+#![tactic(auto)]
+
 ghost use Rattle.std.specs.Prelude.{◌≡◌, length};
 ghost use Rattle.refusals.specs.Numbers.{unless_refused};
 ghost use Rattle.ctr_spec.specs.CounterMode.{ctr};

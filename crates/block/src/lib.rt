@@ -1,10 +1,12 @@
 // A block of 128 bits as two halves of 64, its bytes, and the counter's sum over all 128 bits; and the copying of bytes.
+#![tactic(auto)]
+
 ghost use Rattle.std.specs.Prelude.{◌≡◌, ◌+◌, ◌%◌, ◌^◌, ◌<◌, length, slice_index};
 ghost use Rattle.block.specs.Bytes.{number, big_endian, window};
 ghost use Rattle.block.specs.Number.{block_number};
 
 // A block: hi holds its first eight bytes, most significant first, and lo the last eight.
-#[derive(Drop)]
+#[derive(Clone, Copy)]
 pub struct Block {
     pub hi: u64,
     pub lo: u64,

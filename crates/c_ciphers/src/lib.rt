@@ -2,6 +2,8 @@
 //
 // A `&[u8]` is two arguments in C, `const uint8_t *` and then its length as `size_t`, and a `&mut [u8]` is `uint8_t *` and
 // then its length. Every function takes any lengths and answers the number of document 01: 0 served, else the refusal.
+#![tactic(auto)]
+
 ghost use Rattle.std.specs.Prelude.{◌≡◌, length};
 ghost use Rattle.refusals.specs.Numbers.{unless_refused};
 ghost use Rattle.ctr_spec.specs.CounterMode.{ctr, ctr_from};

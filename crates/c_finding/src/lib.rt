@@ -2,6 +2,8 @@
 //
 // Arguments pass as in `c_ciphers`. The session is lent as the bytes of its struct, which crate `records` reads. One of another size
 // than the header's finds nothing.
+#![tactic(auto)]
+
 ghost use Rattle.std.specs.Prelude.{◌≡◌, length};
 ghost use Rattle.model.specs.Parts.{choose};
 ghost use Rattle.model.specs.Read.{find_model};

@@ -2,6 +2,8 @@
 //
 // Arguments pass as in `c_ciphers`. The structs of the header are lent as their bytes, which crate `records` reads and writes.
 // A struct of another size than the header's is 13 before everything else, and then all that was lent stays.
+#![tactic(auto)]
+
 ghost use Rattle.model.specs.Opening.{open_model};
 ghost use Rattle.records.specs.Structs.{geometry_in};
 ghost use Rattle.c_opening.specs.Handed.{OpenHanded, HandedLaws};

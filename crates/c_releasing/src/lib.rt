@@ -2,6 +2,8 @@
 //
 // Arguments pass as in `c_ciphers`. The struct of the session is lent as its bytes, which crate `records` reads and writes. Where it
 // has another size than the header's, the answer is 13 before everything else, and all that was lent stays.
+#![tactic(auto)]
+
 ghost use Rattle.std.specs.Prelude.{length};
 ghost use Rattle.model.specs.Session.{held};
 ghost use Rattle.model.specs.Release.{release_model};

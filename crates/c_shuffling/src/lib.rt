@@ -2,6 +2,8 @@
 //
 // Arguments pass as in `c_ciphers`. The struct of the geometry is lent as its bytes, which crate `records` reads. Where it has another
 // size than the header's, the answer is 13 before everything else, and all that was lent stays.
+#![tactic(auto)]
+
 ghost use Rattle.std.specs.Prelude.{length};
 ghost use Rattle.model.specs.Shuffle.{shuffle_model};
 ghost use Rattle.records.specs.Structs.{geometry_in};

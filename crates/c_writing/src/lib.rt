@@ -3,6 +3,8 @@
 // Arguments pass as in `c_ciphers`. The structs of the header are lent as their bytes: crate `records` reads and writes the session's,
 // and `replies` writes the answer's. A struct of another size than the header's is 13 before everything else, and then all that was lent
 // stays; but the answer of the write is told where its own struct has its size.
+#![tactic(auto)]
+
 ghost use Rattle.std.specs.Prelude.{length};
 ghost use Rattle.model.specs.Session.{held};
 ghost use Rattle.model.specs.Write.{write_model};

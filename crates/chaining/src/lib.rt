@@ -1,5 +1,7 @@
 // The chain of headers from volume k down to 0. The VMK of a key cell opens the first; each holds its volume's data key, the VMK that
 // opens the next, and the volume's count of logical slices (document 02, P4). The rest of a header's first block is never read.
+#![tactic(auto)]
+
 ghost use Rattle.std.specs.Prelude.{◌≡◌, ◌≤◌, ◌<◌, length, []};
 ghost use Rattle.refusals.specs.Numbers.{answer_number};
 ghost use Rattle.model.specs.Geometry.{Allowed, device_length, header_of};

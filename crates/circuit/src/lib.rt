@@ -1,6 +1,8 @@
 // The S-box of FIPS 197, section 5.1.1, on 64 bytes at once, without a table: no index and no branch depends on a byte.
 //
 // Bit b of the bytes is word b, and the S-box a circuit of gates on words; specs/Circuit.antt says whose.
+#![tactic(auto)]
+
 ghost use Rattle.std.specs.Prelude.{◌≡◌};
 ghost use Rattle.circuit.specs.Circuit.{sub_words};
 ghost use Rattle.circuit.specs.Theorems.{SubLaws};

@@ -3,6 +3,8 @@
 //
 // `claim` asks for an allowed geometry and for tables that have room for it, which `frames` tests; a frame's own refusals are
 // left to it too.
+#![tactic(auto)]
+
 ghost use Rattle.std.specs.Prelude.{◌≡◌, true, ◌+◌, ◌*◌, ◌≤◌, ◌<◌, length};
 ghost use Rattle.model.specs.Geometry.{Allowed};
 ghost use Rattle.lines.specs.Answers.{answer_bytes};
@@ -27,7 +29,7 @@ const TAPE: usize = MOST_CLAIMS * 4112;
 
 // The numbers of a walk: the geometry of the accepted frame 01, whether a frame 01 and a frame 02 were accepted, how many
 // frames 03 of the right length came, the tape position, and the start place (document 02, P2).
-#[derive(Drop)]
+#[derive(Clone, Copy)]
 pub struct Walk {
     pub geometry: Geometry,
     pub sized: bool,
@@ -38,7 +40,7 @@ pub struct Walk {
 }
 
 // What a frame leaves and answers.
-#[derive(Drop)]
+#[derive(Clone, Copy)]
 pub struct Answered {
     pub walk: Walk,
     pub answer: WalkAnswer,

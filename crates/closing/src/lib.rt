@@ -1,6 +1,8 @@
 // Close: everything held is wiped. No byte of the device is written, since claims and releases are on it already.
 //
 // `close` is a public call: any arguments. It sees no tape, and of the device it takes the length alone.
+#![tactic(auto)]
+
 ghost use Rattle.std.specs.Prelude.{◌≡◌, ℕ, length};
 ghost use Rattle.model.specs.Session.{held};
 ghost use Rattle.model.specs.Close.{CloseResult, closed_session, close_model};

@@ -6,6 +6,8 @@
 //
 // A text under a key goes one of two ways, and its length alone decides: a short one block by block, with the table of the
 // S-box, and a longer one up to 256 blocks at a time, on bit planes. Over round keys it goes by the table at every length.
+#![tactic(auto)]
+
 ghost use Rattle.std.specs.Prelude.{◌≡◌, ◌+◌, ◌*◌, ◌/◌, ◌^◌, ◌<◌, ◌≤◌, length};
 ghost use Rattle.block.specs.Number.{block_number};
 ghost use Rattle.field.specs.Sbox.{IsSbox};

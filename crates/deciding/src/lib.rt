@@ -2,6 +2,8 @@
 // tape.
 //
 // `decide` takes any arguments. It looks at the tables and at the lengths of device, text and tape, never at their bytes.
+#![tactic(auto)]
+
 ghost use Rattle.std.specs.Prelude.{◌≡◌, List, ℕ, ◌≤◌, length};
 ghost use Rattle.refusals.specs.Numbers.{answer_number};
 ghost use Rattle.model.specs.Session.{held};
@@ -14,7 +16,7 @@ use refusals::{Answer, Refusal};
 // A write is refused, with the places looked at, and changes nothing; or it finds no free slice (22), which moves the start
 // place; or it rewrites a block of the slice that its entry names; or it claims the free slice that was found at a place of the
 // permutation.
-#[derive(Drop)]
+#[derive(Clone, Copy)]
 pub enum Decision {
     Refused { refusal: Refusal, probes: usize },
     Full,

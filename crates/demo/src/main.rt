@@ -2,6 +2,8 @@
 // and changed by sessions that are dropped without a close, each of which finds what the one before it left. A last one is closed, which
 // wipes it; then the image is opened with the key of the lower volume, and with one that opens nothing. Every answer is printed.
 // Keys and tape are fixed bytes here, so that each run prints the same; a real device has them drawn at random.
+#![tactic(auto)]
+
 use libc::STDOUT_FILENO;
 use model::{Change, Geometry, OpenAnswer, ReleaseAnswer, Session, WriteAnswer};
 use refusals::Answer;

@@ -1,4 +1,6 @@
 // Counter mode over a part of a device: a text, or zeros, enciphered to a place.
+#![tactic(auto)]
+
 ghost use Rattle.std.specs.Prelude.{◌≡◌, ◌+◌, ◌≤◌, ◌<◌, ◌^◌, length, replicate};
 ghost use Rattle.ctr_spec.specs.CounterMode.{ctr};
 ghost use Rattle.model.specs.Parts.{overlay};

@@ -1,5 +1,7 @@
 // What is proved of shuffles (document 02, P6) beyond point 1, as theorems about the model. Each function here runs nothing; its
 // `ensures` is the statement that the check has to prove.
+#![tactic(auto)]
+
 ghost use Rattle.std.specs.Prelude.{ℕ};
 ghost use Rattle.evenness.specs.Orders.{ShuffledOrders};
 ghost use Rattle.evenness.specs.Evenness.{Evenness};

@@ -1,6 +1,8 @@
 // The key expansion of AES-256 (FIPS 197, section 5.2) without look-ups: no index and no branch depends on a byte of the key.
 //
 // A word is a number of 32 bits, its first byte the most significant. The S-box is the circuit on bit planes, one word at a time.
+#![tactic(auto)]
+
 ghost use Rattle.std.specs.Prelude.{◌≡◌, ◌^◌, ◌<◌, ◌≤◌, get_or, length};
 ghost use Rattle.rounds.specs.State.{sub_word};
 ghost use Rattle.aes.specs.KeyExpansion.{word_at, rot_word, changed_word};

@@ -4,6 +4,8 @@
 // standard (the inverse in the field, then the affine map), and a lemma carries the rule to each entry.
 // A table is copied out once and lent to whoever looks bytes up: indexing the constant itself would build it anew at
 // each use.
+#![tactic(auto)]
+
 ghost use Rattle.std.specs.Prelude.{◌≡◌};
 ghost use Rattle.field.specs.Field.{xtimes};
 ghost use Rattle.field.specs.Sbox.{sbox, IsSbox};

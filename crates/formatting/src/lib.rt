@@ -3,6 +3,8 @@
 // `format` is the public call: any arguments, the tape position lent as one record. It is a straight line: the refusals, the draw, and
 // the carrying out (`making::carry_out`). Its proof is made by `tools/record-walk`, anew when its code changes. What the device held
 // before is never read.
+#![tactic(auto)]
+
 ghost use Rattle.std.specs.Prelude.{◌≡◌, ◌*◌, ◌≤◌, length};
 ghost use Rattle.refusals.specs.Numbers.{answer_number};
 ghost use Rattle.model.specs.Parts.{part};

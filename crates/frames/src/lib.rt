@@ -2,6 +2,8 @@
 //
 // `on_frame` takes any numbers of a walk and any frame of at most 513 bytes. A claim or a rewrite is left to `claims`, the
 // digits of a line and of its answer to `lines`.
+#![tactic(auto)]
+
 ghost use Rattle.std.specs.Prelude.{◌≡◌, true, List, ℕ, ◌+◌, ◌*◌, ◌≤◌, ◌<◌, length, take};
 ghost use Rattle.block.specs.Bytes.{number};
 ghost use Rattle.model.specs.Parts.{part};

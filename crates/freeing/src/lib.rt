@@ -3,6 +3,8 @@
 //
 // `carry_out` takes the answer (`judging::release_refusal`) and the tape bytes that it needs, and sees no tape. All tests are made
 // before it, and it asks for what they have shown.
+#![tactic(auto)]
+
 ghost use Rattle.std.specs.Prelude.{◌≡◌, length};
 ghost use Rattle.model.specs.Session.{held};
 ghost use Rattle.model.specs.Release.{ReleaseResult};

@@ -3,6 +3,8 @@
 // `seal` and `open` are the public calls: any arguments, refused by 3, 13 or 15 or served. `seal_into` and `open_into`
 // are for callers that have no refusal left to make. Opening tests the whole tag before it writes a byte of its output.
 // Not promised: that two texts sealed with one key and IV stay secret, and what a cache or a clock can tell.
+#![tactic(auto)]
+
 ghost use Rattle.std.specs.Prelude.{◌≡◌, ◌+◌, ◌*◌, ◌^◌, ◌<◌, ◌≤◌, length};
 ghost use Rattle.block.specs.Bytes.{number};
 ghost use Rattle.block.specs.Number.{block_number};

@@ -2,6 +2,8 @@
 //
 // The product shifts its 128 bits right, the bit carried from the high half into the low one, and folds by E1 where the
 // bit shifted out is 1. Bits select by masks and not by branches.
+#![tactic(auto)]
+
 ghost use Rattle.std.specs.Prelude.{◌≡◌, ◌-◌, ◌*◌, ◌^◌, ◌<◌, ◌≤◌, length, bit_xor};
 ghost use Rattle.block.specs.Number.{block_number};
 ghost use Rattle.ghash.specs.Product.{bit, next, pick_bit, product};

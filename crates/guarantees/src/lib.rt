@@ -1,5 +1,7 @@
 // The guarantees: the three points (README.md, "What is proved") as theorems about the model, points 2 and 3 about lists of calls.
 // Each function here runs nothing; its `ensures` is the statement that the check has to prove.
+#![tactic(auto)]
+
 ghost use Rattle.guarantees.specs.Points.{Point1, Points23, FormatPoints, NoSliceTwice};
 ghost use Rattle.guarantees.specs.StartPlaces.{StartPlaces};
 ghost use Rattle.guarantees.specs.GivenBack.{SlicesGivenBack};

@@ -2,6 +2,8 @@
 //
 // `release_refusal` takes any arguments. It looks at the tables, at the permutation and at the lengths of device and tape, never at
 // their bytes.
+#![tactic(auto)]
+
 ghost use Rattle.std.specs.Prelude.{◌≡◌, ◌*◌, ◌≤◌, ◌<◌, length};
 ghost use Rattle.refusals.specs.Numbers.{answer_number};
 ghost use Rattle.model.specs.Session.{held};

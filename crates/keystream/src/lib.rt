@@ -2,6 +2,8 @@
 //
 // Block 16 * j + i of the text is block i of lane j. Its counter block stands in words 16 * i + j and 256 + 16 * i + j, and so does its
 // output block after the cipher.
+#![tactic(auto)]
+
 ghost use Rattle.std.specs.Prelude.{◌≡◌, ◌+◌, ◌*◌, ◌%◌, ◌^◌, ◌<◌, ◌≤◌, length};
 ghost use Rattle.block.specs.Number.{block_number};
 ghost use Rattle.keystream.specs.Blocks.{OutputBlocks};

@@ -2,6 +2,8 @@
 // the key schedule and the cipher share.
 //
 // Every index is made of a lane's and a row's number, none of a word.
+#![tactic(auto)]
+
 ghost use Rattle.std.specs.Prelude.{◌≡◌, ◌++◌, ◌<◌, ◌≤◌};
 ghost use Rattle.packing.specs.Planes.{row_from};
 ghost use Rattle.turn.specs.Turn.{turned_of};

@@ -2,6 +2,8 @@
 //
 // The record is made in a local, lent to the call, and its number read back. The proofs are made by `tools/record-walk`, so
 // that callers need none of their own for lending a record.
+#![tactic(auto)]
+
 ghost use Rattle.std.specs.Prelude.{length};
 ghost use Rattle.model.specs.Session.{held};
 ghost use Rattle.model.specs.Write.{WriteResult, write_model};

@@ -2,6 +2,8 @@
 // hexadecimal, and the output line of an answer.
 //
 // What a frame means is left to `frames`, how lines stand in an input to `walk`.
+#![tactic(auto)]
+
 ghost use Rattle.std.specs.Prelude.{◌≡◌, [], ◌∷◌, ◌++◌, ◌+◌, ◌*◌, ◌≤◌, ◌<◌, length};
 ghost use Rattle.lines.specs.Hexadecimal.{value as value·of, digit as digit·of, digits as digits·of, decode as decode·of};
 ghost use Rattle.lines.specs.Answers.{served, answer_bytes, spelt_in, count_in, Writes};
@@ -12,7 +14,7 @@ use refusals::Refusal;
 pub const OUTPUT_BYTES: usize = 27;
 
 // The answer to a line: an accepted frame 01 or 02, a refusal, or a served frame 03.
-#[derive(Drop)]
+#[derive(Clone, Copy)]
 pub enum WalkAnswer {
     Accepted,
     Refused(Refusal),
@@ -27,7 +29,7 @@ pub enum WalkAnswer {
 // ---- hexadecimal
 
 // What a line spells: so many bytes, or not hexadecimal, or an odd number of digits.
-#[derive(Drop)]
+#[derive(Clone, Copy)]
 pub enum Decoded {
     Bytes(usize),
     Neither,

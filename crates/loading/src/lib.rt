@@ -1,4 +1,6 @@
 // The maps of volumes 0 to k: their map blocks deciphered, and their entries loaded into the map table and the owner table.
+#![tactic(auto)]
+
 ghost use Rattle.std.specs.Prelude.{◌≡◌, ◌+◌, ◌-◌, ◌*◌, ◌%◌, ◌≤◌, ◌<◌, length};
 ghost use Rattle.refusals.specs.Numbers.{answer_number};
 ghost use Rattle.ctr_spec.specs.CounterMode.{ctr};

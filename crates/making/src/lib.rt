@@ -3,6 +3,8 @@
 //
 // All tape bytes of a formatting are drawn at once; each key and each IV is a part of them by its place. What the device held before is
 // never read.
+#![tactic(auto)]
+
 ghost use Rattle.std.specs.Prelude.{◌≡◌, ◌+◌, ◌*◌, ◌≤◌, ◌<◌, length};
 ghost use Rattle.refusals.specs.Numbers.{answer_number, unless_refused};
 ghost use Rattle.model.specs.Parts.{part, overlay, patched};

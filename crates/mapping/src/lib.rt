@@ -2,6 +2,8 @@
 //
 // The entries come as a row of the map table. Past the row's end a map block says unmapped: so the last block is filled up, and a row
 // of no entry makes the map of a volume that holds nothing.
+#![tactic(auto)]
+
 ghost use Rattle.std.specs.Prelude.{◌≡◌, ◌+◌, ◌-◌, ◌*◌, ◌≤◌, ◌<◌, length, get_or};
 ghost use Rattle.model.specs.Parts.{overlay};
 ghost use Rattle.model.specs.Geometry.{Allowed, map_blocks, device_length, map_start, map_block_start};

@@ -1,4 +1,6 @@
 // A row of MIXCOLUMNS (FIPS 197, section 5.1.3) on 64 bytes at once, word b of a row holding bit b of every byte.
+#![tactic(auto)]
+
 ghost use Rattle.std.specs.Prelude.{◌≡◌};
 ghost use Rattle.mix.specs.Mix.{sum_words, mix_words};
 ghost use Rattle.mix.specs.Theorems.{MixLaws};

@@ -1,5 +1,7 @@
 // The types that the engine's calls speak of. What each call answers and leaves stands in specs/, in the order of
 // documents 01 and 02; nothing here runs.
+#![tactic(auto)]
+
 ghost use Rattle.model.specs.Theorems.{LayoutLaws, SealingLaws, AnswerLaws, ModelLaws};
 ghost use Rattle.model.specs.Bench.{cases, AllHold};
 
@@ -7,7 +9,7 @@ use refusals::{Answer, Refusal};
 
 // The geometry of a device (document 01, "Geometry of a stick"): b is B, the bytes in a block; s is S, the data blocks in
 // a slice; p is P, the physical slices.
-#[derive(Drop)]
+#[derive(Clone, Copy)]
 pub struct Geometry {
     pub b: usize,
     pub s: usize,
@@ -17,7 +19,7 @@ pub struct Geometry {
 // A session, handed in and back: its geometry, the opened volume k, 15 data keys of 32 bytes end to end, open or closed,
 // the start place, where a claim begins to look (document 02, P2), and 15 counts, N of each volume: its logical slices
 // (document 02, P4).
-#[derive(Drop)]
+#[derive(Clone, Copy)]
 pub struct Session {
     pub geometry: Geometry,
     pub k: usize,
@@ -28,62 +30,62 @@ pub struct Session {
 }
 
 // The position of the next unused tape byte (document 01 calls it the tape mark).
-#[derive(Drop)]
+#[derive(Clone, Copy)]
 pub struct TapePosition {
     pub at: usize,
 }
 
 // How a served write changed the device: the slice that it claimed or rewrote.
-#[derive(Drop)]
+#[derive(Clone, Copy)]
 pub enum Change {
     Claimed(usize),
     Rewritten(usize),
 }
 
 // The answer of a write, with the number of places looked at.
-#[derive(Drop)]
+#[derive(Clone, Copy)]
 pub enum WriteAnswer {
     Served { change: Change, probes: usize },
     Refused { refusal: Refusal, probes: usize },
 }
 
 // The answer of a release: the slice freed, or the refusal (document 02, P5).
-#[derive(Drop)]
+#[derive(Clone, Copy)]
 pub enum ReleaseAnswer {
     Freed(usize),
     Refused(Refusal),
 }
 
 // The answer of an opening: the opened volume k, or the refusal.
-#[derive(Drop)]
+#[derive(Clone, Copy)]
 pub enum OpenAnswer {
     Opened(usize),
     Refused(Refusal),
 }
 
 // What an opening hands back.
-#[derive(Drop)]
+#[derive(Clone, Copy)]
 pub struct Opening {
     pub answer: OpenAnswer,
     pub session: Session,
 }
 
 // What a write hands back.
-#[derive(Drop)]
+#[derive(Clone, Copy)]
 pub struct Written {
     pub answer: WriteAnswer,
     pub session: Session,
 }
 
 // What a release hands back.
-#[derive(Drop)]
+#[derive(Clone, Copy)]
 pub struct Released {
     pub answer: ReleaseAnswer,
     pub session: Session,
 }
 
 // What a read or a close hands back.
-#[derive(Drop)]
+#[derive(Clone, Copy)]
 pub struct Reply {
     pub answer: Answer,
     pub session: Session,
@@ -91,7 +93,7 @@ pub struct Reply {
 
 // What a search finds: the first place of the permutation, from a start on, whose slice is free, a place that names no slice
 // before it, or neither.
-#[derive(Drop)]
+#[derive(Clone, Copy)]
 pub enum Search {
     Free { slice: usize, place: usize },
     Bad(usize),

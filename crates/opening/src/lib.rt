@@ -2,6 +2,8 @@
 //
 // `open` is the public call: any arguments. It draws nothing from the tape. Cells above the one that opens, the salt, and
 // the rest of the master block and of a header's first block are never read.
+#![tactic(auto)]
+
 ghost use Rattle.std.specs.Prelude.{◌≡◌, ◌≤◌, length};
 ghost use Rattle.refusals.specs.Numbers.{answer_number};
 ghost use Rattle.model.specs.Geometry.{Allowed, device_length, cell_of, header_of};

@@ -1,4 +1,6 @@
 // The exchanges of a shuffle (document 02, P6): a list, and for each of its places from the last down to place 1 a draw from the tape.
+#![tactic(auto)]
+
 ghost use Rattle.std.specs.Prelude.{◌≡◌, List, ℕ, ◌+◌, ◌-◌, ◌*◌, ◌%◌, ◌≤◌, ◌<◌, length, get_or, drop, ltb};
 ghost use Rattle.refusals.specs.Numbers.{answer_number, unless_refused};
 ghost use Rattle.model.specs.Parts.{choose};
@@ -8,7 +10,7 @@ ghost use Rattle.ordering.specs.Made.{Makes};
 use refusals::{Answer, Refusal};
 
 // What a shuffle comes to: its answer, and the tape bytes that it used, 0 where it is refused.
-#[derive(Drop)]
+#[derive(Clone, Copy)]
 pub struct Made {
     pub answer: Answer,
     pub used: usize,

@@ -1,4 +1,6 @@
 // Blocks in and out of bit planes: the two words that hold a block before and after the transposition, and its bytes.
+#![tactic(auto)]
+
 ghost use Rattle.std.specs.Prelude.{◌≡◌};
 ghost use Rattle.packing.specs.Planes.{first_word, second_word, block_bytes};
 ghost use Rattle.packing.specs.Theorems.{PackingLaws};

@@ -2,6 +2,8 @@
 //
 // Each place is given by the model's definition under an allowed geometry, where no arithmetic can wrap: the largest
 // device has 4,312,117,248 bytes, and all of it is computed in 64 bits.
+#![tactic(auto)]
+
 ghost use Rattle.std.specs.Prelude.{◌≡◌, ◌+◌, ◌-◌, ◌*◌, ◌≤◌, ◌<◌, ◌^◌, length, replicate};
 ghost use Rattle.refusals.specs.Numbers.{refusal_number, answer_number};
 ghost use Rattle.model.specs.Parts.{overlay};

@@ -2,6 +2,8 @@
 // row first.
 //
 // A step takes its words by value and returns them. No branch, index or shift depends on the words.
+#![tactic(auto)]
+
 ghost use Rattle.std.specs.Prelude.{◌≡◌, ◌<◌};
 ghost use Rattle.packing.specs.Planes.{row_from};
 ghost use Rattle.planes.specs.Rounds.{right_row, added_rows, added_lane, mixed_lane, moved_lane, every_block, key_lane};

@@ -1,6 +1,8 @@
 // Read and find.
 //
 // `read` and `find` are public calls: any arguments. Neither draws from the tape, and neither changes device or tables.
+#![tactic(auto)]
+
 ghost use Rattle.std.specs.Prelude.{◌≡◌, ◌+◌, ◌<◌, length};
 ghost use Rattle.refusals.specs.Numbers.{answer_number};
 ghost use Rattle.model.specs.Geometry.{Allowed, device_length};

@@ -1,5 +1,7 @@
 // The structs that the C functions are lent (include/hiwalgam.h), read and written as bytes: a geometry and a session. Reading asks
 // nothing but the struct's size: any bytes are some geometry or session. The answer of a write stands in crate `replies`.
+#![tactic(auto)]
+
 ghost use Rattle.std.specs.Prelude.{◌≡◌, ◌+◌, ◌≤◌, ◌<◌, length};
 ghost use Rattle.model.specs.Parts.{part, overlay};
 ghost use Rattle.records.specs.Numbers.{eight_at, eight_bytes, numbers_at, numbers_bytes, three_bytes};

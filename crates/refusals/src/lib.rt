@@ -1,10 +1,12 @@
 // What a call can be refused for (document 01; document 02 for 23 to 25, the start place and the counts of slices), and the answer that
 // says no more than served or refused.
+#![tactic(auto)]
+
 ghost use Rattle.std.specs.Prelude.{◌≡◌};
 ghost use Rattle.refusals.specs.Numbers.{refusal_number, answer_number};
 
 // The refusals, in the order of their numbers.
-#[derive(Drop)]
+#[derive(Clone, Copy)]
 pub enum Refusal {
     // 1: B, S or P is not allowed; at formatting also a count of slices, or other than one a key.
     BadGeometry,
@@ -51,7 +53,7 @@ pub enum Refusal {
 }
 
 // The answer of a call that hands back no value of its own.
-#[derive(Drop)]
+#[derive(Clone, Copy)]
 pub enum Answer {
     Served,
     Refused(Refusal),

@@ -1,6 +1,8 @@
 // The answers of an opening, a write and a release as the C functions hand them over (include/hiwalgam.h): the struct of a write's
 // answer, the slice that a release freed, and the numbers that they return. What a formatting and a shuffle hand over is a definition
 // alone (`LentHanded`), with its laws.
+#![tactic(auto)]
+
 ghost use Rattle.std.specs.Prelude.{◌≡◌, length};
 ghost use Rattle.model.specs.Answers.{open_result, change_slice, write_result, release_result};
 ghost use Rattle.replies.specs.Answers.{open_number, write_number, release_number, freed_slice};

@@ -1,6 +1,8 @@
 // What the requests of a session share: their refusals for what is wrong with the session, the device and the tables, with the
 // volume, the block or the entry that is asked for, and with the entry's map block; and the session with another start place.
 // Refusals are tested in the order of documents 01 and 02; a call adds its own before, between or behind them.
+#![tactic(auto)]
+
 ghost use Rattle.std.specs.Prelude.{◌≡◌, ◌*◌, ◌≤◌, ◌<◌, min, length};
 ghost use Rattle.refusals.specs.Numbers.{answer_number, refuse};
 ghost use Rattle.model.specs.Session.{starting_at, block_count, slot, entry, bad_entry, standing, asked_volume, asked};

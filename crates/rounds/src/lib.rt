@@ -2,6 +2,8 @@
 //
 // The state is four columns of four bytes and goes by value from step to step. The S-box is lent (crate `field` says why).
 // Not promised: that the time taken, or the cache lines touched, are the same for all states.
+#![tactic(auto)]
+
 ghost use Rattle.std.specs.Prelude.{◌≡◌};
 ghost use Rattle.field.specs.Sbox.{IsSbox};
 ghost use Rattle.rounds.specs.State.{state_of, bytes_of, sub_word, sub_bytes, shift_rows, mix_column, mix_columns, add_word, add_round_key};

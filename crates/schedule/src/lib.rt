@@ -1,6 +1,8 @@
 // The round keys of AES-256 on bit planes, without look-ups: round key n is block n of a lane.
 //
 // No index and no branch depends on a byte of the key.
+#![tactic(auto)]
+
 ghost use Rattle.std.specs.Prelude.{◌≡◌, ℕ, ◌+◌, ◌*◌, ◌^◌, ◌<◌, get_or, length};
 ghost use Rattle.aes.specs.KeyExpansion.{key_expansion};
 ghost use Rattle.lanes.specs.Lanes.{lane_at};

@@ -1,6 +1,8 @@
 // What GCM seals on a device: a text stored as document 01 lays it out (IV, ciphertext, tag), and the lowest key cell that opens.
 //
 // Whose key, whose IV and which place these are is the caller's to say. Cells above the one that opens are never read.
+#![tactic(auto)]
+
 ghost use Rattle.std.specs.Prelude.{◌≡◌, ◌+◌, ◌≤◌, ◌<◌, length};
 ghost use Rattle.gcm.specs.Call.{opened_over};
 ghost use Rattle.model.specs.Parts.{overlay};
@@ -10,7 +12,7 @@ ghost use Rattle.model.specs.Format.{sealed};
 ghost use Rattle.sealing.specs.Cells.{is_text, CellFound};
 
 // The cell that opens.
-#[derive(Drop)]
+#[derive(Clone, Copy)]
 pub enum Found {
     At(usize),
     Nothing,

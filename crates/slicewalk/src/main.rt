@@ -1,5 +1,7 @@
 // slicewalk: reads lines from standard input, each a frame in hexadecimal, and writes one answer line for each to standard
 // output (document 01, "The walk program"). The lines are those of crate `walk`; this program reads and writes.
+#![tactic(auto)]
+
 ghost use Rattle.std.specs.Prelude.{◌≡◌, ◌+◌, ◌≤◌, ◌<◌, length};
 
 use claims::Walk;
@@ -9,14 +11,14 @@ use lines::OUTPUT_BYTES;
 use walk::LINE_BYTES;
 
 // What goes on from piece to piece: the walk, and how much of the unfinished line is kept.
-#[derive(Drop)]
+#[derive(Clone, Copy)]
 struct Place {
     walk: Walk,
     used: usize,
 }
 
 // Output that waits at the start of a buffer, and whether an earlier write failed.
-#[derive(Drop)]
+#[derive(Clone, Copy)]
 struct Sink {
     waiting: usize,
     failed: bool,
@@ -61,7 +63,7 @@ fn put(output: &mut [u8], sink: Sink, line: &[u8], n: usize) -> Sink
 }
 
 // Where the first line of some input led, and how much of the input was taken.
-#[derive(Drop)]
+#[derive(Clone, Copy)]
 struct Step {
     place: Place,
     sink: Sink,
@@ -132,14 +134,14 @@ fn walk_piece(
 }
 
 // Where a piece of input led, and whether its output could not be written.
-#[derive(Drop)]
+#[derive(Clone, Copy)]
 struct Went {
     place: Place,
     failed: bool,
 }
 
 // Where a turn of reading led, and whether to go on.
-#[derive(Drop)]
+#[derive(Clone, Copy)]
 struct Turn {
     place: Place,
     more: bool,

@@ -2,6 +2,8 @@
 //
 // `carry_out` takes the decision (`deciding::decide`) and the tape bytes that it needs, and sees no tape. All tests are made before
 // it, and it asks for what they have shown.
+#![tactic(auto)]
+
 ghost use Rattle.std.specs.Prelude.{◌≡◌, ◌+◌, ◌-◌, ◌*◌, ◌≤◌, ◌<◌, length, set};
 ghost use Rattle.refusals.specs.declared.Refusal.TheVariants.{NoFreeSlice};
 ghost use Rattle.ctr_spec.specs.CounterMode.{ctr};

@@ -1,4 +1,6 @@
 // Rotations of a word, and the laws of rotations and delta swaps, bit by bit.
+#![tactic(auto)]
+
 ghost use Rattle.std.specs.Prelude.{◌≡◌};
 ghost use Rattle.swaps.specs.Swaps.{right, SwapLaws};
 

@@ -2,6 +2,8 @@
 // and every draw moves on.
 //
 // `draw` is the one function that moves it. Its proof is made by `tools/record-walk`, anew when its code changes.
+#![tactic(auto)]
+
 ghost use Rattle.std.specs.Prelude.{◌≡◌, [], ◌+◌, ◌-◌, ◌<◌, ◌≤◌, length, ltb};
 ghost use Rattle.model.specs.Parts.{choose, part};
 ghost use Rattle.model.specs.Session.{short};

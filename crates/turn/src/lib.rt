@@ -1,6 +1,8 @@
 // The transposition of 32 words: in each half of 32 bits, bit q of word p goes to bit p of word q.
 //
 // Five stages of 16 delta swaps each, by 16, 8, 4, 2 and 1 places. No branch, index or shift depends on the words.
+#![tactic(auto)]
+
 ghost use Rattle.std.specs.Prelude.{◌≡◌};
 ghost use Rattle.swaps.specs.Transpose.{swaps};
 ghost use Rattle.turn.specs.Turn.{Apart, stage, turned_of, TurnLaws};

@@ -6,6 +6,8 @@
 //
 // The numbers of a walk go in and out as a small record; the tables are lent, since 15 × 256 map entries by value would be
 // copied at every line. Arrays of fixed length are lent, so that no call has to test them.
+#![tactic(auto)]
+
 ghost use Rattle.std.specs.Prelude.{◌≡◌, List, ℕ, ◌≤◌, length, take};
 ghost use Rattle.lines.specs.Answers.{answer_bytes, Writes};
 ghost use Rattle.claims.specs.State.{start as start·state};
@@ -46,7 +48,7 @@ pub fn start() -> Walk
 }
 
 // What a line leaves, and the length of its output line.
-#[derive(Drop)]
+#[derive(Clone, Copy)]
 pub struct Printed {
     pub walk: Walk,
     pub length: usize,
@@ -79,7 +81,7 @@ pub fn step(
 
 // What a piece of input leaves: the walk, how much is kept of the unfinished line, how much of the piece was taken, and the
 // length of the output line, 0 where the line goes on.
-#[derive(Drop)]
+#[derive(Clone, Copy)]
 pub struct Fed {
     pub walk: Walk,
     pub used: usize,

@@ -3,6 +3,8 @@
 // `write` is the public call: any arguments, the tape position lent as one record. It is a straight line: what is decided
 // (`deciding::decide`, all tests, before the first byte is written and before the position moves), the draw, and the
 // carrying out (`storing::carry_out`). Its proof is made by `tools/record-walk`, anew when its code changes.
+#![tactic(auto)]
+
 ghost use Rattle.std.specs.Prelude.{length};
 ghost use Rattle.model.specs.Session.{held};
 ghost use Rattle.model.specs.Write.{WriteResult, write_model};
