@@ -3,12 +3,8 @@ use mathlib.Core.Path.{refl}
 use Rattle.field.specs.Field.{xtimes, times_bits, times, squared, squares, inverse}
 use Rattle.field.specs.Sbox.{bit, affine_bit, affine, sbox}
 use Rattle.field.proofs.Rules.{is_sbox, sbox-rule}
-use Rattle.field.proofs.sbox_table.Statement.{statement}
-use Rattle.field.proofs.sbox_table.Tie as tie
+use Rattle.field.proofs.sbox_table.Goals as goal
 
-returns : tie.Need-returns
+pub returns : goal.returns
 unfolding is_sbox xtimes times_bits times squared squares inverse bit affine_bit affine sbox
 returns c = sbox-rule _ tt refl
-
-pub sbox_table_spec : {M : Type 1} → statement M
-sbox_table_spec = tie.close (tie.spec returns)

@@ -4,12 +4,8 @@ use Rattle.block.specs.Bytes.{number_after, big_endian}
 use Rattle.ghash.specs.Product.{bit, next, steps, product}
 use Rattle.ghash.specs.Hash.{hash_blocks, hash_from, ghash}
 use Rattle.ghash.proofs.Hash.{hash_from-++}
-use Rattle.ghash.proofs.ghash_laws.Statement.{statement}
-use Rattle.ghash.proofs.ghash_laws.Tie as tie
+use Rattle.ghash.proofs.ghash_laws.Goals as goal
 
-returns : tie.Need-returns
+pub returns : goal.returns
 unfolding number_after big_endian bit next steps product hash_blocks hash_from ghash
 returns c = record { ++-from = hash_from-++; examples = refl }
-
-pub ghash_laws_spec : {M : Type 1} → statement M
-ghash_laws_spec = tie.close (tie.spec returns)

@@ -3,12 +3,8 @@ use mathlib.Core.Path.{refl}
 use Rattle.field.specs.Field.{xtimes, times_bits, times, squared, squares, inverse}
 use Rattle.field.specs.Sbox.{bit, affine_bit, affine, sbox}
 use Rattle.field.proofs.Rules.{times-inverse}
-use Rattle.field.proofs.field_laws.Statement.{statement}
-use Rattle.field.proofs.field_laws.Tie as tie
+use Rattle.field.proofs.field_laws.Goals as goal
 
-returns : tie.Need-returns
+pub returns : goal.returns
 unfolding xtimes times_bits times squared squares inverse bit affine_bit affine sbox
 returns c = record { inverts = times-inverse; zero = refl; examples = refl }
-
-pub field_laws_spec : {M : Type 1} → statement M
-field_laws_spec = tie.close (tie.spec returns)
