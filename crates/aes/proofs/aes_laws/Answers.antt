@@ -3,12 +3,8 @@ use mathlib.Core.Path.{refl}
 use Rattle.aes.specs.KeyExpansion.{key_expansion}
 use Rattle.aes.specs.Cipher.{cipher}
 use Rattle.aes.proofs.Schedule.{schedule_length}
-use Rattle.aes.proofs.aes_laws.Statement.{statement}
-use Rattle.aes.proofs.aes_laws.Tie as tie
+use Rattle.aes.proofs.aes_laws.Goals as goal
 
-returns : tie.Need-returns
+pub returns : goal.returns
 unfolding key_expansion cipher
 returns c = record { schedule_length = λ key h. schedule_length key h 52; cipher_length = λ w block. refl }
-
-pub aes_laws_spec : {M : Type 1} → statement M
-aes_laws_spec = tie.close (tie.spec returns)
