@@ -1,7 +1,7 @@
 -- The test of two lists: it is equality, and the loop over their bytes computes it. Assumes nothing.
 use Prim.Native.Nat.{ℕ, zero, suc, ◌+◌, ◌<◌}
 use mathlib.Core.Path.{◌≡◌, refl, sym, ap, ap₂, ◌∙◌}
-use mathlib.Core.Bool.{Bool, true, false, ◌&&◌, and_true, and_assoc, false≢true}
+use mathlib.Core.Bool.{Bool, true, false, ◌&&◌, and-true, and_assoc, false≢true}
 use mathlib.Core.List.{List, [], ◌∷◌}
 use native.Mathlib.Omega.{arith}
 use native.Mathlib.Numerals.{add-one}
@@ -74,7 +74,7 @@ same-take : (i : ℕ) (a b : List ℕ) → i < length a → i < length b
 unfolding same
 same-take i [] b h k = absurd (omega arith)
 same-take i (x ∷ a) [] h k = absurd (omega arith)
-same-take zero (x ∷ a) (y ∷ b) h k = and_true (eqb x y)
+same-take zero (x ∷ a) (y ∷ b) h k = and-true (eqb x y)
 same-take (suc i) (x ∷ a) (y ∷ b) h k =
     ap (λ (t : Bool). eqb x y && t) (same-take i a b (omega arith) (omega arith))
     ∙ sym (and_assoc (eqb x y) (same (take i a) (take i b)) (eqb (get_or a i 0) (get_or b i 0)))

@@ -1,7 +1,7 @@
 -- Laws of a test of each number below n. Assumes nothing.
 use Prim.Native.Nat.{ℕ, zero, suc, ◌+◌, ◌<◌}
 use mathlib.Core.Path.{◌≡◌, refl, sym, ap, ap₂, ◌∙◌}
-use mathlib.Core.Bool.{Bool, true, false, ◌||◌, or_true}
+use mathlib.Core.Bool.{Bool, true, false, ◌||◌, or-true}
 use mathlib.Core.Logic.{⊎_elim}
 use native.Mathlib.Nat.{eq-or-lt_of_le, le_of_suc-le-suc}
 use native.Mathlib.Numerals.{add-one}
@@ -18,7 +18,7 @@ pub any_below-found : (f : ℕ → Bool) (n i : ℕ) → i < n → f i ≡ true 
 unfolding any_below
 any_below-found f zero i l holds = absurd (omega arith)
 any_below-found f (suc n) i l holds =
-    ⊎_elim (λ e. ap (λ (b : Bool). any_below f n || b) (ap f (sym e) ∙ holds) ∙ or_true (any_below f n))
+    ⊎_elim (λ e. ap (λ (b : Bool). any_below f n || b) (ap f (sym e) ∙ holds) ∙ or-true (any_below f n))
     (λ less. ap (λ (b : Bool). b || f n) (any_below-found f n i less holds))
     (eq-or-lt_of_le (le_of_suc-le-suc l))
 

@@ -1,10 +1,9 @@
 -- `gcm_spec::gcm_laws` meets its contract. Assumes nothing.
 use Rattle.gcm_spec.proofs.Gctr.{text_twice, text_length, tag_length, counter_low}
 use Rattle.gcm_spec.proofs.Same.{open_sealed, open_right, same_refl, same_equal}
-use Rattle.gcm_spec.proofs.gcm_laws.Statement.{statement}
-use Rattle.gcm_spec.proofs.gcm_laws.Tie as tie
+use Rattle.gcm_spec.proofs.gcm_laws.Goals as goal
 
-returns : tie.Need-returns
+pub returns : goal.returns
 returns c =
     record {
       opens = open_sealed;
@@ -16,6 +15,3 @@ returns c =
       same_equal = same_equal;
       counters = counter_low;
     }
-
-pub gcm_laws_spec : {M : Type 1} → statement M
-gcm_laws_spec = tie.close (tie.spec returns)

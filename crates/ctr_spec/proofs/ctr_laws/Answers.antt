@@ -1,10 +1,9 @@
 -- `ctr_spec::ctr_laws` meets its contract. Assumes nothing.
 use Rattle.ctr_spec.proofs.Stream.{ctr_twice, ctr_length, ctr_part, keystream_get_or}
 use Rattle.ctr_spec.proofs.Counter.{counter_first, counter_next, counter_wraps, keystream_byte_lem, over_from, over_whole}
-use Rattle.ctr_spec.proofs.ctr_laws.Statement.{statement}
-use Rattle.ctr_spec.proofs.ctr_laws.Tie as tie
+use Rattle.ctr_spec.proofs.ctr_laws.Goals as goal
 
-returns : tie.Need-returns
+pub returns : goal.returns
 returns c =
     record {
       twice = ctr_twice;
@@ -18,6 +17,3 @@ returns c =
       over_round_keys = over_whole;
       over_round_keys_from = over_from;
     }
-
-pub ctr_laws_spec : {M : Type 1} → statement M
-ctr_laws_spec = tie.close (tie.spec returns)
