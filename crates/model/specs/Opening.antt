@@ -1,5 +1,5 @@
 -- Opening (document 01, "Opening"; document 02, P2 and P4): the device is seen through its key cells and headers alone. Assumes nothing.
-use Rattle.std.specs.Prelude.{ℕ, zero, suc, ◌+◌, ◌-◌, ◌*◌, ◌/◌, ◌%◌, List, [], ◌∷◌, ◌++◌, Bool, true, false, not, ◌||◌, length, get_or, set, replicate, ltb, eqb}
+use Rattle.std.specs.Prelude.{ℕ, zero, suc, ◌+◌, ◌-◌, ◌*◌, ◌/◌, ◌%◌, List, [], ◌∷◌, ◌++◌, Bool, true, false, not, ◌||◌, length, get_or, set, replicate, eqb}
 use Rattle.refusals.specs.Numbers.{refuse}
 use Rattle.ctr_spec.specs.CounterMode.{ctr}
 use Rattle.gcm_spec.specs.Gcm.{Opened, Text, WrongTag, gcm_open}

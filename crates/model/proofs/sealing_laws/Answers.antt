@@ -4,10 +4,9 @@ use Rattle.ctr_spec.specs.CounterMode.{ctr}
 use Rattle.ctr_spec.proofs.Stream.{ctr_twice}
 use Rattle.model.proofs.Blocks.{deciphered_mapped}
 use Rattle.model.proofs.Seals.{cell_opens, cell_sealed, header_opens, header_sealed, header_text, map-entry}
-use Rattle.model.proofs.sealing_laws.Statement.{statement}
-use Rattle.model.proofs.sealing_laws.Tie as tie
+use Rattle.model.proofs.sealing_laws.Goals as goal
 
-returns : tie.Need-returns
+pub returns : goal.returns
 returns c =
     record {
       cell = cell_opens;
@@ -18,6 +17,3 @@ returns c =
       entry = map-entry;
       block = λ g device vek iv text ψ j l p q. deciphered_mapped g vek ψ j device l ∙ ap₂ (ctr vek) p q ∙ ctr_twice vek iv text;
     }
-
-pub sealing_laws_spec : {M : Type 1} → statement M
-sealing_laws_spec = tie.close (tie.spec returns)

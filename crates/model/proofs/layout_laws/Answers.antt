@@ -9,8 +9,7 @@ use Rattle.model.specs.Geometry.{Allowed, per_block, map_blocks, header_blocks, 
 use Rattle.model.specs.Parts.{part}
 use Rattle.model.proofs.Parts.{part_next}
 use Rattle.model.proofs.Bounds.{b_bounds, entries_fill, per_block_least}
-use Rattle.model.proofs.layout_laws.Statement.{statement}
-use Rattle.model.proofs.layout_laws.Tie as tie
+use Rattle.model.proofs.layout_laws.Goals as goal
 
 map_blocks_lem : (g : Geometry) → Allowed g → (g.p ≤ map_blocks g * per_block g) × (map_blocks g * per_block g < g.p + per_block g)
 unfolding map_blocks
@@ -20,7 +19,7 @@ map_blocks_lem g ok =
     let rest = mod-lt n (per_block_least g ok) in
     (omega (arith, per_block_least g ok), omega (arith, per_block_least g ok))
 
-returns : tie.Need-returns
+pub returns : goal.returns
 unfolding header_blocks device_length map_start slice_start slice_size iv_start block_start
 returns c =
     record {
@@ -47,6 +46,3 @@ returns c =
       blocks = λ s i σ j l m. digits_lt m l;
       within = λ s i a l m. (div-lt_iff_lt-mul l).1 m;
     }
-
-pub layout_laws_spec : {M : Type 1} → statement M
-layout_laws_spec = tie.close (tie.spec returns)

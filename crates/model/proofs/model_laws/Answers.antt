@@ -20,15 +20,14 @@ use Rattle.model.proofs.Searches.{free_found, bad_found, none_found}
 use Rattle.model.proofs.Seals.{block_iv, block_entry}
 use Rattle.model.proofs.Shuffles.{ordering_names, ordering_shuffles, run_drawn, drawing_run}
 use Rattle.model.proofs.Tests.{equal}
-use Rattle.model.proofs.model_laws.Statement.{statement}
-use Rattle.model.proofs.model_laws.Tie as tie
+use Rattle.model.proofs.model_laws.Goals as goal
 
 -- One element set.
 set_at : (s : List ℕ) (m x n : ℕ) → n < length s → get_or (set s m x) n 0 ≡ choose (eqb n m) x (get_or s n 0)
 set_at s m x n l =
     ⊎_elim (λ e. rw (eq-eqb n m e, ← e) (get_or-set_same s n x 0 l)) (λ d. rw (ne_eqb n m d) (get_or-set_other s m n x 0 d)) (equal n m)
 
-returns : tie.Need-returns
+pub returns : goal.returns
 returns c =
     record {
       lowest = λ key cell k vmk e. let l = first_cell_lowest key cell 15 k vmk e in (l.1, l.2);
@@ -63,6 +62,3 @@ returns c =
       map_block_lem = λ maps g ok vek iv i t e l ivl le fits.
           rw (map_block_row maps g i t l vek iv) (block_iv g ok vek iv _ ivl, block_entry g ok vek iv _ ivl e le fits);
     }
-
-pub model_laws_spec : {M : Type 1} → statement M
-model_laws_spec = tie.close (tie.spec returns)
