@@ -27,7 +27,6 @@ use Rattle.model.proofs.Requests as requests
 use Rattle.guarantees.specs.Openings.{Lowest, AllUnlocked}
 use Rattle.guarantees.specs.Rules.{table_entry}
 use Rattle.guarantees.specs.Points.{Handed, Lent, opens, Maps, StartsAt, Opens}
-use Rattle.guarantees.proofs.Reflects.{refutes_passed}
 use Rattle.guarantees.proofs.Chains.{leads_zero}
 use Rattle.guarantees.proofs.Orders.{missing_names, open_leads}
 use Rattle.guarantees.proofs.SoundTables.{SoundTables}

@@ -96,6 +96,7 @@ patched-before a (y ∷ ps) c s x n o l =
 pub patched-whole : (a : ℕ) (ps : List Patch) (c : ℕ) (s : List ℕ) → InOrder a ps c → c ≤ length s → (x : Patch) → Memᴰ x ps
     → (n : ℕ) → length x.bytes ≡ n → part x.at n (patched ps s) ≡ x.bytes
 unfolding patched
+patched-whole a [] c s o l x m n q = elim m [ ]
 patched-whole a (y ∷ ps) c s o l x (Memᴰ.head e) n q =
     let y-long : length y.bytes ≡ n = rw e at q in
     let ends = in_order_end (y.at + length y.bytes) ps c o.1 in

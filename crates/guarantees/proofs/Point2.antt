@@ -13,7 +13,7 @@ use Rattle.model.specs.declared.Geometry.{Geometry}
 use Rattle.model.specs.declared.Session.{Session}
 use Rattle.model.specs.Parts.{part, overlay, patched}
 use Rattle.model.specs.Geometry.{Allowed, map_blocks, header_blocks, header_start, map_start, map_block_start, slice_start, iv_start, block_start}
-use Rattle.model.specs.Session.{Held, Outcome, geometry, key_of, count_of, block_count, slot, slice_of, offset_of, unmapped, asked, idle, starting_at}
+use Rattle.model.specs.Session.{Held, Outcome, geometry, key_of, count_of, block_count, slot, slice_of, offset_of, unmapped, idle, starting_at}
 use Rattle.model.specs.Maps.{map_block_of, map_block}
 use Rattle.model.specs.Opening.{stored_entry}
 use Rattle.model.specs.Read.{deciphered, block_of, read_refusal, read_model, find_model}
@@ -39,7 +39,7 @@ use Rattle.guarantees.proofs.Places.{Apart, slice_first}
 use Rattle.guarantees.proofs.SoundTables.{SoundTables, OpenVolume, sound_fits}
 use Rattle.guarantees.proofs.Blocks.{same_address, restored_here, restored_other, claimed_text}
 use Rattle.guarantees.proofs.Blocks.{filled_here, filled_other}
-use Rattle.guarantees.proofs.Cases.{Stands, stands_at, Asked, Ready, read_refusal_of, write_refusal_of, Claimable}
+use Rattle.guarantees.proofs.Cases.{Stands, stands_at, Asked, Ready, read_refusal_of, write_refusal_of}
 use Rattle.guarantees.proofs.Cases.{Writable, write_cases, write_stores, Releasable, release_cases, close_cases}
 use Rattle.guarantees.proofs.Entries.{set_slice, set_entry, set_entry_other}
 use Rattle.guarantees.proofs.Claims.{claimed_stands, free_new, claimed_sound}
@@ -454,6 +454,7 @@ module _ (first : State) (st : State) (arrays : Arrays) (kept : st.held.session.
             let volume : OpenVolume h₀ i = omega arith in
             let address : a < block_count h₀.session i = omega arith in
             absurd (f (sound_fits op.sound i (slice_of g₀ a) volume (omega (arith, asked_slice op.stands volume address))))
+        go (later u (later l (later t (later p (later v (later w (later s (later _ x)))))))) = elim x [ ]
 
   -- A read is refused as a write with a permutation of P places.
   read_unfit : (i a len r : ℕ) → read_refusal_of n h₀ i a len ≡ suc r → Unfit h₀ g₀.p i a len (suc r)
@@ -525,6 +526,7 @@ module _ (first : State) (st : State) (arrays : Arrays) (kept : st.held.session.
           let slice : σ < count_of h₀.session i = omega arith in
           rw q (release_short (live u) (named p) volume slice
           (⊎_elim (λ mark. absurd (e mark)) (λ l. l) (sound_fits op.sound i σ volume (set_slice n h₀ i σ 0 op.stands volume slice))) lacking)
+      go r (later u (later l (later t (later p (later v (later w (later b (later e (later _ x))))))))) = elim x [ ]
 
   close_due : CloseDue h₀ (close_model n h₀).answer
   close_due =
@@ -535,6 +537,7 @@ module _ (first : State) (st : State) (arrays : Arrays) (kept : st.held.session.
       go r (here f q c) = rw q (CloseDue.shut (λ o. f (kept o).stands.usable))
       go r (later u (here f q c)) = absurd (f (kept (live u)).stands.long)
       go r (later u (later l (here f q c))) = absurd (f (kept (live u)).stands.tables)
+      go r (later u (later l (later _ x))) = elim x [ ]
 
 -- ---- the list
 

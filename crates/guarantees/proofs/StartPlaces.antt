@@ -32,7 +32,7 @@ use Rattle.guarantees.specs.StartPlaces.{releasing, releases_in, Bounded, StartP
 use Rattle.model.proofs.Tests.{equal, below, min_cases}
 use Rattle.model.proofs.Requests.{write_refusal_none}
 use Rattle.model.proofs.Searches.{first_free_skips}
-use Rattle.guarantees.proofs.Cases.{early_not_22, write_cases, Releasable, release_cases, close_cases}
+use Rattle.guarantees.proofs.Cases.{early_not_22, write_cases, release_cases, close_cases}
 use Rattle.guarantees.proofs.Releases.{released_owner}
 use Rattle.guarantees.proofs.Opened.{Served, served, served_is, opened_by, served_start, served_place}
 

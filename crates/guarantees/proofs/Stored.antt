@@ -1,5 +1,5 @@
 -- What a run stores: the patches of its calls in order, on the written places and nowhere else. Assumes nothing.
-use Prim.Native.Nat.{ℕ, ◌+◌, ◌-◌, ◌*◌, ◌≤◌, ◌<◌}
+use Prim.Native.Nat.{ℕ, ◌+◌, ◌-◌, ◌*◌, ◌≤◌}
 use mathlib.Core.Path.{◌≡◌, refl, sym, ap, ap₂, ◌∙◌}
 use mathlib.Core.List.{List, [], ◌∷◌, ◌++◌}
 use native.Mathlib.Omega.{arith}
@@ -9,7 +9,7 @@ use borrow.Author.Tests.{ne_eqb}
 use Rattle.ctr_spec.proofs.Stream.{ctr_length}
 use Rattle.model.specs.declared.Geometry.{Geometry}
 use Rattle.model.specs.Parts.{part, Patch, patched}
-use Rattle.model.specs.Geometry.{map_block_start, slice_start, slice_size, iv_start, block_start}
+use Rattle.model.specs.Geometry.{map_block_start, slice_start, iv_start, block_start}
 use Rattle.model.specs.Session.{Held, Outcome, held, idle, geometry, key_of, slot, slice_of, offset_of, unmapped, no_keys, starting_at}
 use Rattle.model.specs.Maps.{map_block_of, map_patch}
 use Rattle.model.specs.Write.{WriteResult, claim_need, claimed_bytes}

@@ -3,10 +3,9 @@ use Rattle.guarantees.proofs.Answered.{open_answered, read_answered, find_answer
 use Rattle.guarantees.proofs.Making.{format_answered}
 use Rattle.guarantees.proofs.Shuffled.{shuffle_answered}
 use Rattle.guarantees.proofs.Stored.{step}
-use Rattle.guarantees.proofs.point_one.Statement.{statement}
-use Rattle.guarantees.proofs.point_one.Tie as tie
+use Rattle.guarantees.proofs.point_one.Goals as goal
 
-returns : tie.Need-returns
+pub returns : goal.returns
 returns c =
     record {
       opens = open_answered;
@@ -19,6 +18,3 @@ returns c =
       shuffles = shuffle_answered;
       follows = λ st c. (step st c).follows;
     }
-
-pub point_one_spec : {M : Type 1} → statement M
-point_one_spec = tie.close (tie.spec returns)
