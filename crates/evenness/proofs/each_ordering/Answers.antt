@@ -11,8 +11,7 @@ use Rattle.evenness.specs.Runs.{AcceptedRun}
 use Rattle.evenness.specs.Evenness.{Quotients, quotients_of, draws_of, run_count, Exactly}
 use Rattle.evenness.proofs.Stages.{Place, Stage, draws_accepted, from_ordering, from_quotients, quotients_suit, from_run}
 use Rattle.evenness.proofs.Counting.{nth_quotients, number_of, nth_suits, number_lt, nth_number, number_nth}
-use Rattle.evenness.proofs.each_ordering.Statement.{statement}
-use Rattle.evenness.proofs.each_ordering.Tie as tie
+use Rattle.evenness.proofs.each_ordering.Goals as goal
 
 module _ (p : ℕ) where
   abbrev i : ℕ
@@ -67,7 +66,7 @@ module _ (p : ℕ) where
             sym (numbers m lm) ∙ ap (λ (ds : List ℕ). number_of i (quotients_of i ds)) e ∙ numbers k lk;
       }
 
-returns : tie.Need-returns
+pub returns : goal.returns
 returns c p =
     record {
       ordering_names = λ ds run. ordering_names p ds;
@@ -78,6 +77,3 @@ returns c p =
       from_quotients = quotients p;
       equally = equally p;
     }
-
-pub each_ordering_spec : {M : Type 1} → statement M
-each_ordering_spec = tie.close (tie.spec returns)

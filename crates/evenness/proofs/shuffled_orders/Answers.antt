@@ -12,8 +12,7 @@ use Rattle.guarantees.proofs.Answered.{open_answered, write_answered, release_an
 use Rattle.evenness.specs.Runs.{AcceptedRun}
 use Rattle.evenness.specs.Orders.{Leaves, Made}
 use Rattle.evenness.proofs.Served.{open_not_5, write_not_5, release_not_5, drawing_accepted, run_drawing, run_bytes, ran, ran_draws}
-use Rattle.evenness.proofs.shuffled_orders.Statement.{statement}
-use Rattle.evenness.proofs.shuffled_orders.Tie as tie
+use Rattle.evenness.proofs.shuffled_orders.Goals as goal
 
 names : (g : Geometry) (perm : List ℕ) → Made g perm → Names g.p perm
 names g perm m =
@@ -34,7 +33,7 @@ accepted g list tape position perm after e =
       r.moved,
     )
 
-returns : tie.Need-returns
+pub returns : goal.returns
 returns c =
     record {
       names = names;
@@ -47,6 +46,3 @@ returns c =
           ∙ sym (ran_draws g list' tape' position' perm' after' (ran g list' tape' position' perm' after' e') draws n' d');
       arises = λ p draws run. (_, run_drawing (p - 1) draws run, run_bytes (p - 1) draws run);
     }
-
-pub shuffled_orders_spec : {M : Type 1} → statement M
-shuffled_orders_spec = tie.close (tie.spec returns)

@@ -18,14 +18,13 @@ use Rattle.model.specs.Close.{close_model}
 use Rattle.model.specs.Format.{format_need, format_refusal}
 use Rattle.model.specs.Shuffle.{in_order, exchanged, ordered, draws, run, shuffle_refusal, shuffle_model}
 use Rattle.model.specs.Bench.{cases}
-use Rattle.model.proofs.bench_cases.Statement.{statement}
-use Rattle.model.proofs.bench_cases.Tie as tie
+use Rattle.model.proofs.bench_cases.Goals as goal
 
 infixr 5 ◌and◌
 ◌and◌ : {A B : Type 0} → A → B → A × B
 ◌and◌ row rows = (row, rows)
 
-returns : tie.Need-returns
+pub returns : goal.returns
 unfolding cases refuse bad_geometry map_blocks header_blocks device_length map_start slice_start iv_start block_start standing asked short
     search first_free with_tables any_below any_bad_count bad_in_block write_refusal write_model place_of release_refusal release_model close_model format_need format_refusal
     joined in_order exchanged ordered draws run shuffle_refusal shuffle_model xtimes times_bits times squared squares inverse bit affine_bit affine sbox
@@ -37,6 +36,3 @@ returns c =
     refl and refl and refl and refl and refl and refl and refl and refl and refl and refl and refl and refl and
     refl and refl and refl and refl and refl and refl and refl and refl and refl and refl and refl and refl and
     refl and refl and refl and refl and refl and refl and refl and refl and refl and refl and refl and refl and refl and refl and tt
-
-pub bench_cases_spec : {M : Type 1} → statement M
-bench_cases_spec = tie.close (tie.spec returns)
