@@ -10,7 +10,7 @@ use lib.ListN.{get_or, set, length, length-set}
 use lib.Seq.{get_or-set_same, get_or-set_other, lt-length-set}
 use Rattle.circuit.specs.Bits.{bit_of}
 use Rattle.circuit.proofs.Laws.{bit_lt}
-use Rattle.swaps.specs.Swaps.{swap_a, swap_b, SwapLaws}
+use Rattle.swaps.specs.Swaps.{swap_a, swap_b}
 use Rattle.swaps.specs.Transpose.{Swap, swap, once, swaps, Place, back, fits, leads}
 use Rattle.swaps.proofs.Laws.{laws}
 
