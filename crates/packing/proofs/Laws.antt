@@ -11,7 +11,7 @@ use Rattle.block.proofs.Bytes.{big_endian-++}
 use Rattle.circuit.specs.Bits.{bit_of, bits_of, byte_of}
 use Rattle.circuit.proofs.Laws.{eight, spread}
 use Rattle.swaps.proofs.Laws.{shr_bit}
-use Rattle.turn.specs.Turn.{turned_of, TurnLaws}
+use Rattle.turn.specs.Turn.{turned_of}
 use Rattle.turn.proofs.Laws as turn
 use Rattle.rounds.specs.State.{four, state_of, bytes_of}
 use Rattle.rounds.proofs.Words.{four_equal}
