@@ -13,7 +13,7 @@ use Rattle.rounds.specs.State.{add_word}
 use Rattle.rounds.proofs.Words.{four_equal}
 use Rattle.aes.specs.KeyExpansion.{word_at, changed_word, next_word, schedule, key_expansion}
 use Rattle.aes.proofs.Schedule.{schedule_length}
-use Rattle.expansion.specs.Words.{word_bytes, Word, Expanded}
+use Rattle.expansion.specs.Words.{word_bytes, Word}
 use Rattle.expansion.proofs.Numbers.{same_word, sum-word}
 
 -- A word of the first of two lists, and the first word of the second.

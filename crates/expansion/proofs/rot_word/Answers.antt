@@ -1,0 +1,7 @@
+-- `expansion::rot_word` meets its contract. Assumes nothing.
+use borrow.Author.Rules.{rules}
+use Rattle.expansion.proofs.Numbers.{turned_word}
+use Rattle.expansion.proofs.rot_word.Goals as goal
+
+pub returns : goal.returns
+returns c = turned_word c.args.p (search rules)
