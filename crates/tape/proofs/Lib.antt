@@ -1,4 +1,2 @@
 pub mod Draws
-pub mod Lent
-pub mod Shared
 pub mod Steps

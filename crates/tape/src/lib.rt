@@ -1,7 +1,7 @@
 // The tape of random bytes and its position (document 01 calls it the tape mark): one small record that the caller lends
 // and every draw moves on.
 //
-// `draw` is the one function that moves it. Its proof is made by `tools/record-walk`, anew when its code changes.
+// `draw` is the one function that moves it.
 #![tactic(auto)]
 
 ghost use Rattle.std.specs.Prelude.{◌≡◌, [], ◌+◌, ◌-◌, ◌<◌, ◌≤◌, length, ltb};
