@@ -13,8 +13,7 @@ use Rattle.model.specs.declared.Session.{Session}
 use Rattle.model.specs.Session.{slot}
 use Rattle.model.specs.Conditions.{Usable}
 use Rattle.model.proofs.Bounds.{slot_lt}
-use Rattle.judging.proofs.check_slice.Statement.{statement}
-use Rattle.judging.proofs.check_slice.Tie as tie
+use Rattle.judging.proofs.check_slice.Goals as goal
 
 -- The entry stands in the map table.
 slot_below : (maps : List ℕ) (s : Session) (i σ : ℕ) → Usable s → length maps ≡ 15 * s.geometry.p → i ≤ s.k → σ < s.geometry.p
@@ -39,14 +38,23 @@ module _ (n rest : ℕ) where
   unfolding refuse
   mark_past x r y u e q z = rw (ne_eqb y u (λ w. q (e ∙ w))) z
 
-pub check_slice_spec : {M : Type 1} → statement M
-check_slice_spec =
-    tie.close
-    (tie.spec
-    (λ c κs. search (rules, slot_below))
-    (λ c. search (rules, flag_first, flag_past, mark_first, mark_past))
-    (λ c κs. search (rules, slot_below))
-    (λ c. search (rules, flag_first, flag_past, mark_first, mark_past))
-    (λ c κs. search (rules, slot_below))
-    (λ c. search (rules, flag_first, flag_past, mark_first, mark_past))
-    (λ c. search (rules, flag_first, flag_past, mark_first, mark_past)))
+pub is_block_bad-requires : goal.is_block_bad-requires
+is_block_bad-requires c = search (rules, slot_below)
+
+pub returns-then-is_block_bad : goal.returns-then-is_block_bad
+returns-then-is_block_bad c = search (rules, flag_first, flag_past, mark_first, mark_past)
+
+pub entry_at-requires : goal.entry_at-requires
+entry_at-requires c = search (rules, slot_below)
+
+pub returns-then-entry_at-eq-UNMAPPED : goal.returns-then-entry_at-eq-UNMAPPED
+returns-then-entry_at-eq-UNMAPPED c = search (rules, flag_first, flag_past, mark_first, mark_past)
+
+pub is_short-requires : goal.is_short-requires
+is_short-requires c = search (rules, slot_below)
+
+pub returns-then-is_short : goal.returns-then-is_short
+returns-then-is_short c = search (rules, flag_first, flag_past, mark_first, mark_past)
+
+pub returns : goal.returns
+returns c = search (rules, flag_first, flag_past, mark_first, mark_past)
