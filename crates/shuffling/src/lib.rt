@@ -2,7 +2,7 @@
 //
 // `shuffle` is the public call: any arguments, the tape position lent as one record. It is a straight line: the list is made (`make`:
 // refusals, then draws from the rest of the tape), one draw moves the position past the bytes that this used, and the answer is handed
-// back. Its proof is made by `tools/record-walk`, anew when its code changes. What the list held before is never read.
+// back. What the list held before is never read.
 #![tactic(auto)]
 
 ghost use Rattle.std.specs.Prelude.{◌≡◌, ◌-◌, ◌≤◌, length, drop};

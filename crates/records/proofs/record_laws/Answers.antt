@@ -2,10 +2,9 @@
 use mathlib.Core.Path.{refl}
 use Rattle.records.proofs.Structs.{session_fields, session_again, session_bytes-length, geometry_fields, geometry_again}
 use Rattle.records.proofs.Structs.{three_bytes-length, handed_back-kept}
-use Rattle.records.proofs.record_laws.Statement.{statement}
-use Rattle.records.proofs.record_laws.Tie as tie
+use Rattle.records.proofs.record_laws.Goals as goal
 
-returns : tie.Need-returns
+pub returns : goal.returns
 returns c =
     record {
       session_fields = session_fields;
@@ -18,6 +17,3 @@ returns c =
       geometry_again = geometry_again;
       three_long = three_bytes-length;
     }
-
-pub record_laws_spec : {M : Type 1} → statement M
-record_laws_spec = tie.close (tie.spec returns)

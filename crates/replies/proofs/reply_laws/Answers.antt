@@ -4,10 +4,9 @@ use native.Mathlib.Omega.{arith}
 use lib.ListN.{length}
 use borrow.Author.Tests.{eq-eqb, ne_eqb}
 use Rattle.records.proofs.Structs.{three_fields}
-use Rattle.replies.proofs.reply_laws.Statement.{statement}
-use Rattle.replies.proofs.reply_laws.Tie as tie
+use Rattle.replies.proofs.reply_laws.Goals as goal
 
-returns : tie.Need-returns
+pub returns : goal.returns
 returns c =
     record {
       written_claimed = λ ψ probes. three_fields 1 ψ probes (omega arith);
@@ -21,6 +20,3 @@ returns c =
           let e = eq-eqb (length geometry) 24 sized in
           record { answered = rw e at h.number_is; stored = rw e at h.stored; moved = rw e at h.moved };
     }
-
-pub reply_laws_spec : {M : Type 1} → statement M
-reply_laws_spec = tie.close (tie.spec returns)

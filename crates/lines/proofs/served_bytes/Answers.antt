@@ -1,0 +1,9 @@
+-- `lines::served_bytes` meets its contract. Assumes nothing.
+use mathlib.Core.Path.{sym}
+use native.Mathlib.Nat.{div-one}
+use Rattle.block.specs.Bytes.{big_endian}
+use Rattle.lines.proofs.served_bytes.Goals as goal
+
+pub returns : goal.returns
+unfolding big_endian
+returns c = sym (simp div-one)
