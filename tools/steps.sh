@@ -1,17 +1,9 @@
-# Sourced by .ci/run and tools/changed: steps that are counted and timed, and a table of them. The folder is the repository's.
+# Sourced by .ci/run: steps that are counted and timed, and a table of them. The folder is the repository's.
 #
 # A step is a command. It leaves a line in $steps/table: its name, how many passed and failed, when it began and ended, and the CPU seconds
 # of what it ran. What it prints goes to standard output and to a file of its own, so steps may run side by side.
 TIMEFORMAT='%U %S'
-
-# For each check the prover writes some thousand small files to the folder for temporary files, and removes them. In memory, where 4 GiB are
-# free and programs may run there, that takes up to a third off the time of a small crate's check.
-steps=
-if [ -z "${TMPDIR:-}" ] && [ "$(df --output=avail /dev/shm 2>/dev/null | tail -n 1)" -gt 4194304 ] 2>/dev/null; then
-  steps=$(mktemp -d /dev/shm/hiwalgam.XXXXXX) && chmod 711 "$steps" && printf '#!/bin/sh\n' >"$steps/runs" && chmod +x "$steps/runs"
-  if "$steps/runs" 2>/dev/null; then export TMPDIR=$steps; fi
-fi
-[ -n "$steps" ] || steps=$(mktemp -d)
+steps=$(mktemp -d)
 : >"$steps/table"
 
 # ran JUDGE NAME COMMAND..: runs one step. JUDGE reads the log, is given the status, and prints how many passed and failed. A step
@@ -36,6 +28,14 @@ by_status() { if [ "$1" -eq 0 ]; then echo 1 0; else echo 0 1; fi; }
 
 # A command whose last line is 'N passed, M failed'.
 by_last_line() { awk '{ last = $0 } END { if (last ~ /^[0-9]+ passed, [0-9]+ failed$/) { split(last, n, " "); print n[1], n[3] } else print 0, 1 }'; }
+
+# `rt ci`, which ends so too. An edit that cannot be applied or read fails nothing there, and is counted on its line 'rt: ok': here it failed.
+by_ci() {
+  awk '
+    /^rt: ok/ && match($0, /must-fail edits:[^;]*, [0-9]+ bad/) { words = split(substr($0, RSTART, RLENGTH), word, " "); bad = word[words - 1] }
+    { last = $0 }
+    END { if (last ~ /^[0-9]+ passed, [0-9]+ failed$/) { split(last, n, " "); print n[1], n[3] + bad } else print 0, 1 }'
+}
 
 # The tests of a workspace, which cargo counts for each of its test programs. A test that the machine does not allow says so, and is no
 # test that passed. No test at all is a failure.

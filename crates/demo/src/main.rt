@@ -4,115 +4,127 @@
 // Keys and tape are fixed bytes here, so that each run prints the same; a real device has them drawn at random.
 #![tactic(auto)]
 
-use libc::STDOUT_FILENO;
 use model::{Change, Geometry, OpenAnswer, ReleaseAnswer, Session, WriteAnswer};
 use refusals::Answer;
+use std::io;
 
 // ---- printing
 
-fn say(text: &[u8]) {
-    io::write_all(STDOUT_FILENO, text);
+fn say(to: &impl Print, text: &[u8]) -> io::Result<()> {
+    to.write_all(text)
 }
 
-fn say_number(n: usize) {
-    io::print_decimal(STDOUT_FILENO, n as u64);
+fn say_number(to: &impl Print, n: usize) -> io::Result<()> {
+    to.print(n)
 }
 
-fn say_position(position: usize) {
-    say(b", tape position ");
-    say_number(position);
-    say(b"\n");
+fn say_position(to: &impl Print, position: usize) -> io::Result<()> {
+    say(to, b", tape position ")?;
+    say_number(to, position)?;
+    say(to, b"\n")
 }
 
 // The slices in the order in which claims look for a free one.
-fn say_order(perm: &[u32]) {
-    say(b", order");
+fn say_order(to: &impl Print, perm: &[u32]) -> io::Result<()> {
+    say(to, b", order")?;
     let mut i = 0;
     while i < perm.len() {
-        say(b" ");
-        say_number(perm[i] as usize);
+        say(to, b" ")?;
+        say_number(to, perm[i] as usize)?;
         i += 1;
     }
+    Ok(())
 }
 
 // The logical slices of each open volume: above the opened one the count is 0.
-fn say_slices(counts: [usize; 15]) {
-    say(b", slices of its volumes");
+fn say_slices(to: &impl Print, counts: [usize; 15]) -> io::Result<()> {
+    say(to, b", slices of its volumes")?;
     let mut v = 0;
     while v < 15 {
         if counts[v] != 0 {
-            say(b" ");
-            say_number(counts[v]);
+            say(to, b" ")?;
+            say_number(to, counts[v])?;
         }
         v += 1;
     }
+    Ok(())
 }
 
-fn say_open(answer: OpenAnswer, start: usize, counts: [usize; 15]) {
+fn say_open(
+    to: &impl Print,
+    answer: OpenAnswer,
+    start: usize,
+    counts: [usize; 15],
+) -> io::Result<()> {
     match answer {
         OpenAnswer::Opened(k) => {
-            say(b"opened to volume ");
-            say_number(k);
-            say(b", start place ");
-            say_number(start);
-            say_slices(counts);
+            say(to, b"opened to volume ")?;
+            say_number(to, k)?;
+            say(to, b", start place ")?;
+            say_number(to, start)?;
+            say_slices(to, counts)?;
         }
         OpenAnswer::Refused(r) => {
-            say(b"refused, ");
-            say_number(refusals::refusal_number(r) as usize);
+            say(to, b"refused, ")?;
+            say_number(to, refusals::refusal_number(r) as usize)?;
         }
     }
-    say(b"\n");
+    say(to, b"\n")
 }
 
-fn say_write(answer: WriteAnswer, position: usize) {
+fn say_write(to: &impl Print, answer: WriteAnswer, position: usize) -> io::Result<()> {
     match answer {
         WriteAnswer::Served { change, probes } => {
             match change {
                 Change::Claimed(slice) => {
-                    say(b"claimed slice ");
-                    say_number(slice);
+                    say(to, b"claimed slice ")?;
+                    say_number(to, slice)?;
                 }
                 Change::Rewritten(slice) => {
-                    say(b"rewrote slice ");
-                    say_number(slice);
+                    say(to, b"rewrote slice ")?;
+                    say_number(to, slice)?;
                 }
             }
-            say(b", places looked at ");
-            say_number(probes);
+            say(to, b", places looked at ")?;
+            say_number(to, probes)?;
         }
         WriteAnswer::Refused { refusal, probes } => {
-            say(b"refused, ");
-            say_number(refusals::refusal_number(refusal) as usize);
-            say(b", places looked at ");
-            say_number(probes);
+            say(to, b"refused, ")?;
+            say_number(to, refusals::refusal_number(refusal) as usize)?;
+            say(to, b", places looked at ")?;
+            say_number(to, probes)?;
         }
     }
-    say_position(position);
+    say_position(to, position)
 }
 
-fn say_release(answer: ReleaseAnswer, start: usize, position: usize) {
+fn say_release(
+    to: &impl Print,
+    answer: ReleaseAnswer,
+    start: usize,
+    position: usize,
+) -> io::Result<()> {
     match answer {
         ReleaseAnswer::Freed(slice) => {
-            say(b"freed slice ");
-            say_number(slice);
+            say(to, b"freed slice ")?;
+            say_number(to, slice)?;
         }
         ReleaseAnswer::Refused(r) => {
-            say(b"refused, ");
-            say_number(refusals::refusal_number(r) as usize);
+            say(to, b"refused, ")?;
+            say_number(to, refusals::refusal_number(r) as usize)?;
         }
     }
-    say(b", start place ");
-    say_number(start);
-    say_position(position);
+    say(to, b", start place ")?;
+    say_number(to, start)?;
+    say_position(to, position)
 }
 
-fn say_answer(answer: Answer) {
+fn say_answer(to: &impl Print, answer: Answer) -> io::Result<()> {
     match answer {
-        Answer::Served => say(b"served"),
+        Answer::Served => say(to, b"served"),
         Answer::Refused(r) => {
-            say(b"refused, ");
-            say_number(refusals::refusal_number(r) as usize);
+            say(to, b"refused, ")?;
+            say_number(to, refusals::refusal_number(r) as usize)
         }
     }
 }
@@ -152,102 +164,113 @@ fn fill(bytes: &mut [u8]) {
 
 // ---- the calls
 
-fn show_format(words: &[u8], device: &mut [u8], keys: &[u8], tape: &[u8], at: &mut usize) {
-    say(words);
+fn show_format(
+    to: &impl Print,
+    words: &[u8],
+    device: &mut [u8],
+    keys: &[u8],
+    tape: &[u8],
+    at: &mut usize,
+) -> io::Result<()> {
+    say(to, words)?;
     let counts = [4usize, 2];
     let answer = lending::format_at(device, geometry(), 2, keys, &counts, tape, at);
-    say_answer(answer);
+    say_answer(to, answer)?;
     let position = *at;
-    say_position(position);
+    say_position(to, position)
 }
 
 // The device is made, with 4 logical slices for volume 0 and 2 for volume 1: not with one key for both volumes, since it would open
 // the lower one alone.
-fn show_making(device: &mut [u8], tape: &[u8], at: &mut usize) {
+fn show_making(to: &impl Print, device: &mut [u8], tape: &[u8], at: &mut usize) -> io::Result<()> {
     let twice = [1u8; 64];
-    show_format(b"format with one key twice: ", device, &twice, tape, at);
+    show_format(to, b"format with one key twice: ", device, &twice, tape, at)?;
     let keys = caller_keys();
-    show_format(b"format with keys 0 and 1: ", device, &keys, tape, at);
+    show_format(to, b"format with keys 0 and 1: ", device, &keys, tape, at)
 }
 
-fn show_shuffle(perm: &mut [u32], tape: &[u8], at: &mut usize) {
-    say(b"shuffle a list of ");
-    say_number(perm.len());
-    say(b" places: ");
+fn show_shuffle(to: &impl Print, perm: &mut [u32], tape: &[u8], at: &mut usize) -> io::Result<()> {
+    say(to, b"shuffle a list of ")?;
+    say_number(to, perm.len())?;
+    say(to, b" places: ")?;
     let answer = lending::shuffle_at(geometry(), perm, tape, at);
-    say_answer(answer);
+    say_answer(to, answer)?;
     match answer {
-        Answer::Served => say_order(perm),
+        Answer::Served => say_order(to, perm)?,
         Answer::Refused(_) => {}
     }
     let position = *at;
-    say_position(position);
+    say_position(to, position)
 }
 
 // The permutation is drawn: not into a list of 3 places, since there are 4 slices.
-fn show_drawing(perm: &mut [u32], tape: &[u8], at: &mut usize) {
+fn show_drawing(to: &impl Print, perm: &mut [u32], tape: &[u8], at: &mut usize) -> io::Result<()> {
     let mut three = [0u32; 3];
-    show_shuffle(&mut three, tape, at);
-    show_shuffle(perm, tape, at);
+    show_shuffle(to, &mut three, tape, at)?;
+    show_shuffle(to, perm, tape, at)
 }
 
 fn show_open(
+    to: &impl Print,
     device: &[u8],
     key: usize,
     maps: &mut [u32],
     owners: &mut [u8],
     perm: &[u32],
-) -> Session {
-    say(b"open with key ");
-    say_number(key);
-    say(b": ");
+) -> io::Result<Session> {
+    say(to, b"open with key ")?;
+    say_number(to, key)?;
+    say(to, b": ")?;
     let o = opening::open(device, geometry(), &caller_key(key), maps, owners, perm);
     let answer = o.answer;
     let session = o.session;
     let counts = session.counts;
-    say_open(answer, session.start, counts);
-    session
+    say_open(to, answer, session.start, counts)?;
+    Ok(session)
 }
 
 // The first bytes of a block that was read.
-fn show_bytes(buf: &[u8]) {
+fn show_bytes(to: &impl Print, buf: &[u8]) -> io::Result<()> {
     if 4 <= buf.len() {
-        say(b", the block begins");
+        say(to, b", the block begins")?;
         let mut i = 0;
         while i < 4 {
-            say(b" ");
-            say_number(buf[i] as usize);
+            say(to, b" ")?;
+            say_number(to, buf[i] as usize)?;
             i += 1;
         }
     }
+    Ok(())
 }
 
 fn show_read(
+    to: &impl Print,
     device: &[u8],
     maps: &[u32],
     owners: &[u8],
     session: Session,
     volume: usize,
     address: usize,
-) {
-    say(b"read block ");
-    say_number(address);
-    say(b" of volume ");
-    say_number(volume);
-    say(b": ");
+) -> io::Result<()> {
+    say(to, b"read block ")?;
+    say_number(to, address)?;
+    say(to, b" of volume ")?;
+    say_number(to, volume)?;
+    say(to, b": ")?;
     let mut buf = [255u8; 1024];
     let r = reading::read(device, maps, owners, session, volume, address, &mut buf);
     let answer = r.answer;
-    say_answer(answer);
+    say_answer(to, answer)?;
     match answer {
-        Answer::Served => show_bytes(&buf),
+        Answer::Served => show_bytes(to, &buf)?,
         Answer::Refused(_) => {}
     }
-    say(b"\n");
+    say(to, b"\n")
 }
 
 // Block 5 written, with bytes that tell the session.
 fn show_write(
+    to: &impl Print,
     device: &mut [u8],
     maps: &mut [u32],
     owners: &mut [u8],
@@ -257,26 +280,33 @@ fn show_write(
     session: Session,
     volume: usize,
     n: usize,
-) {
-    say(b"write block 5 of volume ");
-    say_number(volume);
-    say(b": ");
+) -> io::Result<()> {
+    say(to, b"write block 5 of volume ")?;
+    say_number(to, volume)?;
+    say(to, b": ")?;
     let text = [(1 + n % 3) as u8; 1024];
     let w = lending::write_at(
         device, maps, owners, perm, tape, at, session, volume, 5, &text,
     );
     let position = *at;
     let answer = w.answer;
-    say_write(answer, position);
+    say_write(to, answer, position)
 }
 
-fn show_find(device: &[u8], maps: &[u32], owners: &[u8], session: Session) {
-    say(b"find block 5 of volume 0: a part of ");
-    say_number(reading::find(device, maps, owners, session, 0, 5).len());
-    say(b" bytes\n");
+fn show_find(
+    to: &impl Print,
+    device: &[u8],
+    maps: &[u32],
+    owners: &[u8],
+    session: Session,
+) -> io::Result<()> {
+    say(to, b"find block 5 of volume 0: a part of ")?;
+    say_number(to, reading::find(device, maps, owners, session, 0, 5).len())?;
+    say(to, b" bytes\n")
 }
 
 fn show_release(
+    to: &impl Print,
     device: &mut [u8],
     maps: &mut [u32],
     owners: &mut [u8],
@@ -285,25 +315,31 @@ fn show_release(
     at: &mut usize,
     session: Session,
     volume: usize,
-) {
-    say(b"release logical slice 1 of volume ");
-    say_number(volume);
-    say(b": ");
+) -> io::Result<()> {
+    say(to, b"release logical slice 1 of volume ")?;
+    say_number(to, volume)?;
+    say(to, b": ")?;
     let r = lending::release_at(device, maps, owners, perm, tape, at, session, volume, 1);
     let position = *at;
     let answer = r.answer;
     let left = r.session;
-    say_release(answer, left.start, position);
+    say_release(to, answer, left.start, position)
 }
 
-fn show_close(device: &[u8], maps: &mut [u32], owners: &mut [u8], session: Session) -> Session {
-    say(b"close: ");
+fn show_close(
+    to: &impl Print,
+    device: &[u8],
+    maps: &mut [u32],
+    owners: &mut [u8],
+    session: Session,
+) -> io::Result<Session> {
+    say(to, b"close: ")?;
     let r = closing::close(device, maps, owners, session);
     let answer = r.answer;
-    say_answer(answer);
-    say(b"\n");
+    say_answer(to, answer)?;
+    say(to, b"\n")?;
     let closed = r.session;
-    closed
+    Ok(closed)
 }
 
 // ---- the sessions: each has tables of its own, so that nothing but the device tells it what those before it did
@@ -311,19 +347,21 @@ fn show_close(device: &[u8], maps: &mut [u32], owners: &mut [u8], session: Sessi
 // Session n with key 1: block 5 of a volume is read, and then written; from session 3 on its logical slice is released instead. The session
 // is dropped without a close.
 fn show_session(
+    to: &impl Print,
     device: &mut [u8],
     perm: &[u32],
     tape: &[u8],
     at: &mut usize,
     volume: usize,
     n: usize,
-) {
+) -> io::Result<()> {
     let mut maps = [0u32; 60];
     let mut owners = [0u8; 4];
-    let session = show_open(device, 1, &mut maps, &mut owners, perm);
-    show_read(device, &maps, &owners, session, volume, 5);
+    let session = show_open(to, device, 1, &mut maps, &mut owners, perm)?;
+    show_read(to, device, &maps, &owners, session, volume, 5)?;
     if n < 3 {
         show_write(
+            to,
             device,
             &mut maps,
             &mut owners,
@@ -333,9 +371,10 @@ fn show_session(
             session,
             volume,
             n,
-        );
+        )?;
     } else {
         show_release(
+            to,
             device,
             &mut maps,
             &mut owners,
@@ -344,54 +383,63 @@ fn show_session(
             at,
             session,
             volume,
-        );
+        )?;
     }
+    Ok(())
 }
 
 // A claim, a rewrite, a claim for volume 0, which is open too, a release, and one that is refused, since there is no slice.
-fn show_sessions(device: &mut [u8], perm: &[u32], tape: &[u8], at: &mut usize) {
+fn show_sessions(
+    to: &impl Print,
+    device: &mut [u8],
+    perm: &[u32],
+    tape: &[u8],
+    at: &mut usize,
+) -> io::Result<()> {
     let volumes = [1usize, 1, 0, 1, 1];
     let mut n = 0;
     while n < 5 {
-        show_session(device, perm, tape, at, volumes[n], n);
+        show_session(to, device, perm, tape, at, volumes[n], n)?;
         n += 1;
     }
+    Ok(())
 }
 
 // A session that is closed, and refuses what comes after. Volume 1 has 8 blocks, so that block 8 is past its end.
-fn show_closing(device: &[u8], perm: &[u32]) {
+fn show_closing(to: &impl Print, device: &[u8], perm: &[u32]) -> io::Result<()> {
     let mut maps = [0u32; 60];
     let mut owners = [0u8; 4];
-    let session = show_open(device, 1, &mut maps, &mut owners, perm);
-    show_read(device, &maps, &owners, session, 1, 8);
-    let closed = show_close(device, &mut maps, &mut owners, session);
-    show_read(device, &maps, &owners, closed, 1, 5);
+    let session = show_open(to, device, 1, &mut maps, &mut owners, perm)?;
+    show_read(to, device, &maps, &owners, session, 1, 8)?;
+    let closed = show_close(to, device, &mut maps, &mut owners, session)?;
+    show_read(to, device, &maps, &owners, closed, 1, 5)
 }
 
 // With key 0: volume 0 as it was left, and no volume 1. With a key that opens nothing.
-fn show_others(device: &[u8], perm: &[u32]) {
+fn show_others(to: &impl Print, device: &[u8], perm: &[u32]) -> io::Result<()> {
     let mut maps = [0u32; 60];
     let mut owners = [0u8; 4];
-    let session = show_open(device, 0, &mut maps, &mut owners, perm);
-    show_read(device, &maps, &owners, session, 0, 5);
-    show_find(device, &maps, &owners, session);
-    show_read(device, &maps, &owners, session, 1, 5);
-    show_open(device, 2, &mut maps, &mut owners, perm);
+    let session = show_open(to, device, 0, &mut maps, &mut owners, perm)?;
+    show_read(to, device, &maps, &owners, session, 0, 5)?;
+    show_find(to, device, &maps, &owners, session)?;
+    show_read(to, device, &maps, &owners, session, 1, 5)?;
+    show_open(to, device, 2, &mut maps, &mut owners, perm)?;
+    Ok(())
 }
 
-fn show(device: &mut [u8], tape: &[u8]) {
+fn show(to: &impl Print, device: &mut [u8], tape: &[u8]) -> io::Result<()> {
     let mut perm = [0u32; 4];
     let mut at: usize = 0;
-    show_making(device, tape, &mut at);
-    show_drawing(&mut perm, tape, &mut at);
-    show_sessions(device, &perm, tape, &mut at);
-    show_closing(device, &perm);
-    show_others(device, &perm);
+    show_making(to, device, tape, &mut at)?;
+    show_drawing(to, &mut perm, tape, &mut at)?;
+    show_sessions(to, device, &perm, tape, &mut at)?;
+    show_closing(to, device, &perm)?;
+    show_others(to, device, &perm)
 }
 
-fn main() {
+fn main(rt: HostRuntime) -> io::Result<()> {
     let mut device = [0u8; 52224];
     let mut tape = [0u8; 55296];
     fill(&mut tape);
-    show(&mut device, &tape);
+    show(&rt, &mut device, &tape)
 }

@@ -2,13 +2,17 @@
 // output (document 01, "The walk program"). The lines are those of crate `walk`; this program reads and writes.
 #![tactic(auto)]
 
-ghost use Rattle.std.specs.Prelude.{◌≡◌, ◌+◌, ◌≤◌, ◌<◌, length};
+ghost use Rattle.std.specs.Prelude.{◌≡◌, ◌+◌, ◌≤◌, ◌<◌, length, IfOk};
 
 use claims::Walk;
 use frames::{MAP_ENTRIES, MOST_SLICES};
-use libc::{STDIN_FILENO, STDOUT_FILENO};
 use lines::OUTPUT_BYTES;
+use std::io;
+use std::io::Read;
 use walk::LINE_BYTES;
+
+// The bytes of input that are read at a time, and of output that wait at most.
+const PIECE_BYTES: usize = 65_536;
 
 // What goes on from piece to piece: the walk, and how much of the unfinished line is kept.
 #[derive(Clone, Copy)]
@@ -17,49 +21,41 @@ struct Place {
     used: usize,
 }
 
-// Output that waits at the start of a buffer, and whether an earlier write failed.
+// Output that waits at the start of a buffer.
 #[derive(Clone, Copy)]
 struct Sink {
     waiting: usize,
-    failed: bool,
 }
 
 // Writes what waits.
-fn flush(output: &[u8], sink: Sink) -> Sink
+fn flush(to: &impl Print, output: &[u8], sink: Sink) -> io::Result<Sink>
     requires { sink.waiting ≤ length output.now }
-    ensures { result.waiting ≡ 0 }
+    ensures { IfOk result (λ s. s.waiting ≡ 0) }
 {
-    let n = sink.waiting;
-    let written = io::write_all(STDOUT_FILENO, &output[..n]);
-    Sink {
-        waiting: 0,
-        failed: sink.failed || !written,
-    }
+    to.write_all(&output[..sink.waiting])?;
+    Ok(Sink { waiting: 0 })
 }
 
 // The sink as it is where it has room for n more bytes, else after a flush.
-fn make_room(output: &[u8], sink: Sink, n: usize) -> Sink
+fn make_room(to: &impl Print, output: &[u8], sink: Sink, n: usize) -> io::Result<Sink>
     requires { (sink.waiting ≤ length output.now) × (n ≤ length output.now) }
-    ensures { result.waiting + n ≤ length output.now }
+    ensures { IfOk result (λ s. s.waiting + n ≤ length output.now) }
 {
     if output.len() - sink.waiting < n {
-        return flush(output, sink);
+        return flush(to, output, sink);
     }
-    sink
+    Ok(sink)
 }
 
 // A line behind what waits.
-fn put(output: &mut [u8], sink: Sink, line: &[u8], n: usize) -> Sink
+fn put(to: &impl Print, output: &mut [u8], sink: Sink, line: &[u8], n: usize) -> io::Result<Sink>
     requires { (sink.waiting ≤ length output.old) × (length line.now ≤ length output.old) × (n ≤ length line.now) }
-    ensures { result.waiting ≤ length output.old }
+    ensures { IfOk result (λ s. s.waiting ≤ length output.old) }
 {
-    let room = make_room(output, sink, n);
+    let room = make_room(to, output, sink, n)?;
     let at = room.waiting;
     places::store(output, at, &line[..n]);
-    Sink {
-        waiting: at + n,
-        failed: room.failed,
-    }
+    Ok(Sink { waiting: at + n })
 }
 
 // Where the first line of some input led, and how much of the input was taken.
@@ -72,6 +68,7 @@ struct Step {
 
 // The first line of some input, or all of the input where the line goes on; its answer goes behind what waits.
 fn walk_line(
+    to: &impl Print,
     place: Place,
     maps: &mut [u32; MAP_ENTRIES],
     owners: &mut [u8; MOST_SLICES],
@@ -80,9 +77,9 @@ fn walk_line(
     rest: &[u8],
     output: &mut [u8],
     sink: Sink,
-) -> Step
+) -> io::Result<Step>
     requires { (0 < length rest.now) × (27 ≤ length output.old) × (sink.waiting ≤ length output.old) }
-    ensures { (0 < result.taken) × (result.taken ≤ length rest.now) × (result.sink.waiting ≤ length output.old) }
+    ensures { IfOk result (λ s. (0 < s.taken) × (s.taken ≤ length rest.now) × (s.sink.waiting ≤ length output.old)) }
 {
     let mut out = [0u8; OUTPUT_BYTES];
     let walk = place.walk;
@@ -92,16 +89,17 @@ fn walk_line(
         walk: next,
         used: fed.used,
     };
-    let after = put(output, sink, &out, fed.length);
-    Step {
+    let after = put(to, output, sink, &out, fed.length)?;
+    Ok(Step {
         place: here,
         sink: after,
         taken: fed.taken,
-    }
+    })
 }
 
 // A piece of input, line by line; what waits is written at its end, so that every line read has its answer.
 fn walk_piece(
+    to: &impl Print,
     place: Place,
     maps: &mut [u32; MAP_ENTRIES],
     owners: &mut [u8; MOST_SLICES],
@@ -109,35 +107,30 @@ fn walk_piece(
     line: &mut [u8; LINE_BYTES],
     piece: &[u8],
     output: &mut [u8],
-) -> Went
+) -> io::Result<Place>
     requires { 27 ≤ length output.old }
 {
     let mut here = place;
-    let mut sink = Sink {
-        waiting: 0,
-        failed: false,
-    };
+    let mut sink = Sink { waiting: 0 };
     let mut at = 0;
     while at < piece.len() {
-        let step = walk_line(here, maps, owners, perm, line, &piece[at..], output, sink);
+        let step = walk_line(
+            to,
+            here,
+            maps,
+            owners,
+            perm,
+            line,
+            &piece[at..],
+            output,
+            sink,
+        )?;
         at += step.taken;
-        let next = step.place;
-        here = next;
-        let after = step.sink;
-        sink = after;
+        here = step.place;
+        sink = step.sink;
     }
-    let done = flush(output, sink);
-    Went {
-        place: here,
-        failed: done.failed,
-    }
-}
-
-// Where a piece of input led, and whether its output could not be written.
-#[derive(Clone, Copy)]
-struct Went {
-    place: Place,
-    failed: bool,
+    flush(to, output, sink)?;
+    Ok(here)
 }
 
 // Where a turn of reading led, and whether to go on.
@@ -148,20 +141,26 @@ struct Turn {
 }
 
 // A failure, named on standard error, ends the walk; a line that is unfinished then is not answered.
-fn give_up(place: Place, what: &[u8]) -> Turn {
-    os::fail(what);
-    let walk = place.walk;
+fn give_up(rt: &impl Eprint, place: Place, what: &str, error: io::Error) -> Turn {
+    name_failure(rt, what, error);
     Turn {
         place: Place {
-            walk: walk,
+            walk: place.walk,
             used: 0,
         },
         more: false,
     }
 }
 
+// A line on standard error. Where that cannot be written either, there is nowhere left to say it.
+fn name_failure(rt: &impl Eprint, what: &str, error: io::Error) {
+    let _ = eprintln!(rt; "slicewalk: {what}: {error}");
+}
+
 // Reads once, and walks what came.
 fn walk_some(
+    from: &mut impl Read,
+    rt: &(impl Print + Eprint),
     place: Place,
     maps: &mut [u32; MAP_ENTRIES],
     owners: &mut [u8; MOST_SLICES],
@@ -172,31 +171,29 @@ fn walk_some(
 ) -> Turn
     requires { 27 ≤ length output.old }
 {
-    let got = libc::read(STDIN_FILENO, input);
-    if got < 0 {
-        return give_up(place, b"slicewalk: standard input");
-    }
-    let n = io::count(got, input);
+    let n = match from.read(input) {
+        Ok(n) => n,
+        Err(e) => return give_up(rt, place, "standard input", e),
+    };
     if n == 0 {
         return Turn {
             place: place,
             more: false,
         };
     }
-    let went = walk_piece(place, maps, owners, perm, line, &input[..n], output);
-    let next = went.place;
-    if went.failed {
-        return give_up(next, b"slicewalk: standard output");
-    }
-    Turn {
-        place: next,
-        more: true,
+    match walk_piece(rt, place, maps, owners, perm, line, &input[..n], output) {
+        Ok(next) => Turn {
+            place: next,
+            more: true,
+        },
+        Err(e) => give_up(rt, place, "standard output", e),
     }
 }
 
-// All of the input. A proved loop has to end, and nothing says that the input does: it counts its turns down from a number
-// that no run uses up.
+// All of the input. A proved loop has to end, and nothing says that the input does: its turns are more than any run makes.
 fn walk_all(
+    from: &mut impl Read,
+    rt: &(impl Print + Eprint),
     maps: &mut [u32; MAP_ENTRIES],
     owners: &mut [u8; MOST_SLICES],
     perm: &mut [u32; MOST_SLICES],
@@ -210,27 +207,26 @@ fn walk_all(
         walk: walk::start(),
         used: 0,
     };
-    let mut turns = u64::MAX;
-    while turns > 0 {
-        let turn = walk_some(place, maps, owners, perm, line, input, output);
-        let next = turn.place;
-        place = next;
+    for _ in 0..u64::MAX {
+        let turn = walk_some(from, rt, place, maps, owners, perm, line, input, output);
+        place = turn.place;
         if !turn.more {
             return place;
         }
-        turns -= 1;
     }
     place
 }
 
-fn main() {
+fn main(rt: HostRuntime) {
     let mut maps = [0u32; MAP_ENTRIES];
     let mut owners = [0u8; MOST_SLICES];
     let mut perm = [0u32; MOST_SLICES];
     let mut line = [0u8; LINE_BYTES];
-    let mut input = io::large_buffer();
-    let mut output = io::large_buffer();
+    let mut input = [0u8; PIECE_BYTES];
+    let mut output = [0u8; PIECE_BYTES];
     let place = walk_all(
+        &mut rt.stdin(),
+        &rt,
         &mut maps,
         &mut owners,
         &mut perm,
@@ -238,10 +234,9 @@ fn main() {
         &mut input,
         &mut output,
     );
-    let last = place.walk;
     let mut out = [0u8; OUTPUT_BYTES];
     let n = walk::finish(
-        last,
+        place.walk,
         &mut maps,
         &mut owners,
         &mut perm,
@@ -249,7 +244,7 @@ fn main() {
         place.used,
         &mut out,
     );
-    if !io::write_all(STDOUT_FILENO, &out[..n]) {
-        os::fail(b"slicewalk: standard output");
+    if let Err(e) = rt.write_all(&out[..n]) {
+        name_failure(&rt, "standard output", e);
     }
 }

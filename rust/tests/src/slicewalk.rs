@@ -3,10 +3,10 @@
 use std::env;
 use std::path::PathBuf;
 
-/// Where `rt check` leaves a program.
-const BUILT: &str = concat!(env!("CARGO_MANIFEST_DIR"), "/../../target/bin");
+/// Where `rt run` and `rt ci` leave the program.
+const BUILT: &str = concat!(env!("CARGO_MANIFEST_DIR"), "/../../crates/slicewalk/out");
 
-/// The program, in the folder that `HIWALGAM_BIN` names or else in the repository's `target/bin`.
+/// The program, in the folder that `HIWALGAM_BIN` names or else where it was built.
 pub fn slicewalk() -> PathBuf {
     let folder = env::var_os("HIWALGAM_BIN").map_or_else(|| BUILT.into(), PathBuf::from);
     let program = folder.join("slicewalk");
@@ -16,7 +16,8 @@ pub fn slicewalk() -> PathBuf {
     program
 }
 
-const ADVICE: &str = "build it with `rt check slicewalk`, or set HIWALGAM_BIN to its folder";
+const ADVICE: &str =
+    "build it with `rt run` in crates/slicewalk, or set HIWALGAM_BIN to its folder";
 
 /// Frame 01: a geometry.
 pub fn geometry_line(b: u16, s: u16, p: u16) -> String {
