@@ -6,20 +6,12 @@ use borrow.Author.Rules.{rules}
 use Rattle.ctr_spec.specs.CounterMode.{ctr}
 use Rattle.ctr_spec.proofs.Stream.{ctr_length}
 use Rattle.places.proofs.Parts.{overlay_lent}
-use Rattle.enciphering.proofs.store_ctr.Statement.{statement}
-use Rattle.enciphering.proofs.store_ctr.Tie as tie
+use Rattle.enciphering.proofs.store_ctr.Goals as goal
 
-returns : tie.Need-returns
+pub returns : goal.returns
 returns c =
-    let written = c.before.before in
-    let a = written.before.before.before.before.before.before.args in
+    let a = c.args in
     let bytes = ctr a.key.now a.iv.now a.text.now in
-    rw written.ctr-into.ensures
+    rw c.ctr_into.ensures
     (overlay_lent a.at (a.at + length a.text.now) a.device.now bytes
     (ap (λ (n : ℕ). a.at + n) (sym (ctr_length a.key.now a.iv.now a.text.now))) (search rules))
-
-pub store_ctr_spec : {M : Type 1} → statement M
-store_ctr_spec =
-    tie.close
-    (tie.spec (λ c. search rules) (λ c. search rules) (λ c. search rules) (λ c. search rules) (λ c κs. search rules)
-    (λ c. search rules) returns)
