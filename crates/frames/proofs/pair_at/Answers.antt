@@ -1,0 +1,8 @@
+-- `frames::pair_at` meets its contract. Assumes nothing.
+use native.Mathlib.Omega.{arith}
+use Rattle.frames.proofs.Pairs.{number_pair}
+use Rattle.frames.proofs.pair_at.Goals as goal
+
+pub returns : goal.returns
+returns c =
+    (rw (c.wide.ensures.0, c.wide-2.ensures.0) (number_pair c.args.s.now c.args.at c.requires), omega arith)
