@@ -1,6 +1,6 @@
--- Laws for the walk of `release`: what its refusals, its draw and its carrying out come to is the model's release. Assumes nothing.
---     carry-out-asks     what carrying out needs
---     release-ensures    what it leaves is what the model's release leaves
+-- Laws for the proof of `release`: what its refusals, its draw and its carrying out come to is the model's release. Assumes nothing.
+--     carry_out_asks     what carrying out needs
+--     release_ensures    what it leaves is what the model's release leaves
 use Prim.Native.Nat.{ℕ, ◌+◌, ◌≤◌}
 use mathlib.Core.Path.{◌≡◌, sym, ap, ◌∙◌}
 use mathlib.Core.List.{List}

@@ -3,7 +3,7 @@
 //
 // `release` is the public call: any arguments, the tape position lent as one record. It is a straight line: what refuses it
 // (`judging::release_refusal`, all tests, before anything is changed and before the position moves), the draw, and the carrying out
-// (`freeing::carry_out`). Its proof is made by `tools/record-walk`, anew when its code changes.
+// (`freeing::carry_out`).
 #![tactic(auto)]
 
 ghost use Rattle.std.specs.Prelude.{length};

@@ -1,7 +1,7 @@
--- Laws for the walk of `write`: what a decision, its draw and its carrying out come to is the model's write. Assumes nothing.
---     need-asks          what the count of bytes needs, from what was decided
---     carry-out-asks     what carrying out needs, from what was decided and drawn
---     write-ensures      what it leaves is what the model's write leaves
+-- Laws for the proof of `write`: what a decision, its draw and its carrying out come to is the model's write. Assumes nothing.
+--     need_asks          what the count of bytes needs, from what was decided
+--     carry_out_asks     what carrying out needs, from what was decided and drawn
+--     write_ensures      what it leaves is what the model's write leaves
 use Prim.Native.Nat.{ℕ, ◌+◌, ◌≤◌}
 use mathlib.Core.Path.{◌≡◌, refl, ap, ◌∙◌}
 use mathlib.Core.List.{List}

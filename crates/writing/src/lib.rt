@@ -2,7 +2,7 @@
 //
 // `write` is the public call: any arguments, the tape position lent as one record. It is a straight line: what is decided
 // (`deciding::decide`, all tests, before the first byte is written and before the position moves), the draw, and the
-// carrying out (`storing::carry_out`). Its proof is made by `tools/record-walk`, anew when its code changes.
+// carrying out (`storing::carry_out`).
 #![tactic(auto)]
 
 ghost use Rattle.std.specs.Prelude.{length};
