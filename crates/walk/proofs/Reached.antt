@@ -1,7 +1,7 @@
 -- The states that a walk reaches, and the answers that its lines get. Assumes nothing.
 use Prim.Native.Nat.{ℕ, zero, suc, ◌+◌, ◌*◌, ◌/◌, ◌^◌, ◌≤◌, ◌<◌}
 use mathlib.Core.Path.{◌≡◌, refl, ◌∙◌}
-use mathlib.Core.Bool.{Bool, true, false, and-eq-true_iff, false≢true}
+use mathlib.Core.Bool.{Bool, true, false, not, ◌&&◌, and-eq-true_iff, false≢true}
 use mathlib.Core.Logic.{◌⊎◌, inl, inr, ⊎_elim}
 use mathlib.Core.List.{List, [], ◌∷◌}
 use native.Mathlib.Nat.{div-lt_iff_lt-mul, le_refl}
@@ -10,10 +10,12 @@ use lib.Dec.{ltb, eqb, lit≤}
 use lib.ListN.{length, get_or, set, replicate, get_or-replicate, length-set, length-replicate}
 use borrow.Author.Tests.{leb-false, eqb-true, not-false}
 use Rattle.refusals.specs.Numbers.{refuse}
+use Rattle.block.specs.Bytes.{number}
+use Rattle.model.specs.Parts.{part}
 use Rattle.model.specs.declared.Geometry.{Geometry}
 use Rattle.model.specs.declared.Session.{Session}
 use Rattle.model.specs.Geometry.{Allowed, bad_geometry, device_length, block_start}
-use Rattle.model.specs.Session.{Held, geometry, offset_of, unmapped, starting_at}
+use Rattle.model.specs.Session.{Held, geometry, offset_of, unmapped, starting_at, unless}
 use Rattle.model.specs.Permutation.{member}
 use Rattle.model.specs.Conditions.{EntryFits}
 use Rattle.model.proofs.Tests.{bad_geometry_none}
@@ -194,14 +196,23 @@ module _ (w : State) (s : SoundState w) where
           sound = leaving_sound _ refl (omega arith) (λ e. claimed-fits _ _ _ (started_fits _ _ _ fits (place + 1) (omega arith)) _ ψ _ l);
         })
 
+  -- A frame 03 past the first tests.
+  opened_good : (fields : List ℕ) → w.counted < 4096
+      → Good (unless (refuse (not (w.sized && w.shuffled)) 20 0) (refused_by (counting w))
+      (written (counting w) (get_or fields 0 0) (number (part 1 4 fields))))
+  opened_good fields room =
+      let early : Good (refused_by (counting w) 20) =
+      record { listed = byte 20 refl; sound = leaving_sound room w.held refl (omega arith) s.fits } in
+      unless-cases Good (not (w.sized && w.shuffled)) 20 0 (refused_by (counting w))
+      (written (counting w) (get_or fields 0 0) (number (part 1 4 fields))) (λ e. early)
+      (λ e. let both = (and-eq-true_iff _ _).0 (not-false _ e) in
+      written_good room both.0 both.1 (get_or fields 0 0) (number (part 1 4 fields)))
+
   claim_good : (fields : List ℕ) → Good (on_claim w fields)
   unfolding on_claim
   claim_good fields =
       unless-cases Good _ _ _ _ _ (λ e. refused_good 14 refl)
-      (λ e. unless-cases Good _ _ _ _ _ (λ e. refused_good 14 refl)
-      (λ e. let room = leb-false _ _ e in
-      unless-cases Good _ _ _ _ _ (λ e. record { listed = byte 20 refl; sound = leaving_sound room w.held refl (omega arith) s.fits })
-      (λ e. let both = (and-eq-true_iff _ _).0 (not-false _ e) in written_good room both.0 both.1 _ _)))
+      (λ e. unless-cases Good _ _ _ _ _ (λ e. refused_good 14 refl) (λ e. opened_good fields (leb-false _ _ e)))
 
   -- ---- any line
 

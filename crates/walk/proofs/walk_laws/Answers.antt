@@ -2,11 +2,7 @@
 use Rattle.walk.proofs.Example.{example}
 use Rattle.walk.proofs.Lines.{feed_takes, reads, pieces}
 use Rattle.walk.proofs.Reached.{listed}
-use Rattle.walk.proofs.walk_laws.Statement.{statement}
-use Rattle.walk.proofs.walk_laws.Tie as tie
+use Rattle.walk.proofs.walk_laws.Goals as goal
 
-returns : tie.Need-returns
+pub returns : goal.returns
 returns c = record { example = example; listed = listed; takes = feed_takes; reads = reads; pieces = pieces _ }
-
-pub walk_laws_spec : {M : Type 1} → statement M
-walk_laws_spec = tie.close (tie.spec returns)
