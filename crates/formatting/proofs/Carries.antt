@@ -1,7 +1,7 @@
--- Laws for the walk of `format`: what its refusals, its draw and its carrying out come to is the model's formatting. Assumes nothing.
---     format-need-asks   what its count of bytes needs
---     carry-out-asks     what carrying out needs
---     format-ensures     what it leaves is what the model's formatting leaves
+-- Laws for the proof of `format`: what its refusals, its draw and its carrying out come to is the model's formatting. Assumes nothing.
+--     format_need_asks   what its count of bytes needs
+--     carry_out_asks     what carrying out needs
+--     format_ensures     what it leaves is what the model's formatting leaves
 use Prim.Native.Nat.{ℕ, ◌+◌, ◌≤◌}
 use mathlib.Core.Path.{◌≡◌, refl, sym, ap, ◌∙◌}
 use mathlib.Core.List.{List}
