@@ -1,7 +1,6 @@
 // The calls that draw, for a caller that has the tape position as a plain number: the C functions and the demonstration.
 //
-// The record is made in a local, lent to the call, and its number read back. The proofs are made by `tools/record-walk`, so
-// that callers need none of their own for lending a record.
+// The record is made in a local, lent to the call, and its number read back, so that callers need no record of their own.
 #![tactic(auto)]
 
 ghost use Rattle.std.specs.Prelude.{length};
