@@ -3,8 +3,7 @@ use Prim.Native.Nat.{◌<◌}
 use mathlib.Core.Path.{◌≡◌}
 use native.Mathlib.Omega.{arith}
 use Rattle.refusals.specs.Numbers.{refusal_number, answer_number}
-use Rattle.refusals.specs.declared.Answer.{Answer}
-use Rattle.refusals.specs.declared.Answer.TheVariants.{Refused}
+use Rattle.std.specs.Prelude.{Result, Err}
 use Rattle.refusals.specs.declared.Refusal.{Refusal}
 use Rattle.refusals.specs.declared.Refusal.TheVariants.{BadGeometry, DeviceLength, KeyLength, TableLength, BadPermutation, NoCell, HeaderTag}
 use Rattle.refusals.specs.declared.Refusal.TheVariants.{HeaderGeometry, BadEntry, SliceTwice, VolumeAbove, AddressAbove, WrongLength}
@@ -35,5 +34,5 @@ refusal_positive LowerCell = omega arith
 refusal_positive SliceUnmapped = omega arith
 
 -- Nor has an answer that refuses.
-pub answer_positive : {a : Answer} {r : Refusal} → a ≡ Refused r → 0 < answer_number a
+pub answer_positive : {A : Type 0} {a : Result A Refusal} {r : Refusal} → a ≡ Err r → 0 < answer_number a
 answer_positive {r = r} e = rw e (refusal_positive r)

@@ -1,14 +1,12 @@
 -- The refusals of document 01 by their numbers ("Refused for what was handed in", "Refused for how things stand"), and those of
 -- document 02 from 23 on.
 -- Assumes nothing.
-use Rattle.std.specs.Prelude.{ℕ, zero, suc, Bool, true, false}
+use Rattle.std.specs.Prelude.{ℕ, zero, suc, Bool, true, false, Result, Ok, Err}
 use Rattle.refusals.specs.declared.Refusal.{Refusal}
 use Rattle.refusals.specs.declared.Refusal.TheVariants.{BadGeometry, DeviceLength, KeyLength, TableLength, BadPermutation, NoCell}
 use Rattle.refusals.specs.declared.Refusal.TheVariants.{HeaderTag, HeaderGeometry, BadEntry, SliceTwice, VolumeAbove, AddressAbove}
 use Rattle.refusals.specs.declared.Refusal.TheVariants.{WrongLength, MalformedLine, TagDiffers, NotOpen, TapeShort, NoFreeSlice}
 use Rattle.refusals.specs.declared.Refusal.TheVariants.{KeyCount, LowerCell, SliceUnmapped}
-use Rattle.refusals.specs.declared.Answer.{Answer}
-use Rattle.refusals.specs.declared.Answer.TheVariants.{Served, Refused}
 
 -- The document's number of each refusal.
 abbrev pub refusal_number : Refusal → ℕ
@@ -34,10 +32,10 @@ refusal_number KeyCount = 23
 refusal_number LowerCell = 24
 refusal_number SliceUnmapped = 25
 
--- The number of an answer that carries nothing more: 0 where the call was served.
-abbrev pub answer_number : Answer → ℕ
-answer_number Served = 0
-answer_number (Refused r) = refusal_number r
+-- The number of an answer: 0 where the call was served, whatever it hands back.
+abbrev pub answer_number : {A : Type 0} → Result A Refusal → ℕ
+answer_number (Ok x) = 0
+answer_number (Err r) = refusal_number r
 
 -- The first refusal that applies: the number where its condition holds, else what the rest says; 0 is no refusal.
 unfoldable pub refuse : Bool → ℕ → ℕ → ℕ

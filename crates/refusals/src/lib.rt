@@ -1,5 +1,4 @@
-// What a call can be refused for (document 01; document 02 for 23 to 25, the start place and the counts of slices), and the answer that
-// says no more than served or refused.
+// What a call can be refused for (document 01; document 02 for 23 to 25, the start place and the counts of slices), and its number.
 #![tactic(auto)]
 
 ghost use Rattle.std.specs.Prelude.{◌≡◌};
@@ -52,48 +51,43 @@ pub enum Refusal {
     SliceUnmapped,
 }
 
-// The answer of a call that hands back no value of its own.
-#[derive(Clone, Copy)]
-pub enum Answer {
-    Served,
-    Refused(Refusal),
-}
-
 // The document's number of a refusal.
-pub fn refusal_number(r: Refusal) -> u8
-    ensures { result ≡ refusal_number r }
-{
-    match r {
-        Refusal::BadGeometry => 1,
-        Refusal::DeviceLength => 2,
-        Refusal::KeyLength => 3,
-        Refusal::TableLength => 4,
-        Refusal::BadPermutation => 5,
-        Refusal::NoCell => 6,
-        Refusal::HeaderTag => 7,
-        Refusal::HeaderGeometry => 8,
-        Refusal::BadEntry => 9,
-        Refusal::SliceTwice => 10,
-        Refusal::VolumeAbove => 11,
-        Refusal::AddressAbove => 12,
-        Refusal::WrongLength => 13,
-        Refusal::MalformedLine => 14,
-        Refusal::TagDiffers => 15,
-        Refusal::NotOpen => 20,
-        Refusal::TapeShort => 21,
-        Refusal::NoFreeSlice => 22,
-        Refusal::KeyCount => 23,
-        Refusal::LowerCell => 24,
-        Refusal::SliceUnmapped => 25,
+impl From<Refusal> for u8 {
+    ghost from_gives = { λ r n. n ≡ refusal_number r };
+
+    fn from(r: Refusal) -> u8 {
+        match r {
+            Refusal::BadGeometry => 1,
+            Refusal::DeviceLength => 2,
+            Refusal::KeyLength => 3,
+            Refusal::TableLength => 4,
+            Refusal::BadPermutation => 5,
+            Refusal::NoCell => 6,
+            Refusal::HeaderTag => 7,
+            Refusal::HeaderGeometry => 8,
+            Refusal::BadEntry => 9,
+            Refusal::SliceTwice => 10,
+            Refusal::VolumeAbove => 11,
+            Refusal::AddressAbove => 12,
+            Refusal::WrongLength => 13,
+            Refusal::MalformedLine => 14,
+            Refusal::TagDiffers => 15,
+            Refusal::NotOpen => 20,
+            Refusal::TapeShort => 21,
+            Refusal::NoFreeSlice => 22,
+            Refusal::KeyCount => 23,
+            Refusal::LowerCell => 24,
+            Refusal::SliceUnmapped => 25,
+        }
     }
 }
 
-// The number of an answer, 0 for served.
-pub fn answer_number(a: Answer) -> u8
+// The number of an answer, 0 where the call was served.
+pub fn answer_number<T: Copy>(a: Result<T, Refusal>) -> u8
     ensures { result ≡ answer_number a }
 {
     match a {
-        Answer::Served => 0,
-        Answer::Refused(r) => refusal_number(r),
+        Ok(_) => 0,
+        Err(r) => u8::from(r),
     }
 }
