@@ -1,15 +1,10 @@
 -- What the engine's answers say by the document's numbers, and what its calls have to leave. Assumes nothing.
-use Rattle.std.specs.Prelude.{ℕ, ◌≡◌, List}
+use Rattle.std.specs.Prelude.{ℕ, ◌≡◌, List, Result, Ok, Err}
 use Rattle.refusals.specs.Numbers.{refusal_number}
-use Rattle.refusals.specs.declared.Answer.{Answer}
-use Rattle.refusals.specs.declared.Answer.TheVariants as answer
+use Rattle.refusals.specs.declared.Refusal.{Refusal}
 use Rattle.model.specs.declared.Session.{Session}
 use Rattle.model.specs.declared.Change.{Change}
 use Rattle.model.specs.declared.Change.TheVariants.{Claimed, Rewritten}
-use Rattle.model.specs.declared.OpenAnswer.{OpenAnswer}
-use Rattle.model.specs.declared.OpenAnswer.TheVariants as open-answer
-use Rattle.model.specs.declared.ReleaseAnswer.{ReleaseAnswer}
-use Rattle.model.specs.declared.ReleaseAnswer.TheVariants as release-answer
 use Rattle.model.specs.declared.WriteAnswer.{WriteAnswer}
 use Rattle.model.specs.declared.WriteAnswer.TheVariants as write-answer
 use Rattle.model.specs.Parts.{patched}
@@ -21,9 +16,9 @@ use Rattle.model.specs.Release.{ReleaseResult}
 use Rattle.model.specs.Close.{CloseResult, Closed}
 
 -- Opening: k, or the refusal's number.
-abbrev pub open_result : OpenAnswer → OpenResult
-open_result (open-answer.Opened k) = OpenTo k
-open_result (open-answer.Refused r) = NotOpened (refusal_number r)
+abbrev pub open_result : Result ℕ Refusal → OpenResult
+open_result (Ok k) = OpenTo k
+open_result (Err r) = NotOpened (refusal_number r)
 
 -- The slice that a served write claimed or rewrote.
 abbrev pub change_slice : Change → ℕ
@@ -36,14 +31,14 @@ write_result (write-answer.Served change probes) = WriteResult.Served change pro
 write_result (write-answer.Refused r probes) = WriteResult.Refused (refusal_number r) probes
 
 -- Release: the slice freed, or the refusal's number.
-abbrev pub release_result : ReleaseAnswer → ReleaseResult
-release_result (release-answer.Freed ψ) = ReleaseResult.Freed ψ
-release_result (release-answer.Refused r) = ReleaseResult.Refused (refusal_number r)
+abbrev pub release_result : Result ℕ Refusal → ReleaseResult
+release_result (Ok ψ) = ReleaseResult.Freed ψ
+release_result (Err r) = ReleaseResult.Refused (refusal_number r)
 
 -- Close: served, or the refusal's number.
-abbrev pub close_result : Answer → CloseResult
-close_result answer.Served = Closed
-close_result (answer.Refused r) = CloseResult.Refused (refusal_number r)
+abbrev pub close_result : Result Unit Refusal → CloseResult
+close_result (Ok u) = Closed
+close_result (Err r) = CloseResult.Refused (refusal_number r)
 
 -- Read: the refusal's number, 0 where the buffer was filled.
 abbrev pub read_number : ReadResult → ℕ

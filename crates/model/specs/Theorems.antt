@@ -1,8 +1,7 @@
 -- What is proved of the definitions by themselves, so that a slip in one of them is refused here. Assumes nothing.
-use Rattle.std.specs.Prelude.{ℕ, ◌+◌, ◌-◌, ◌*◌, ◌^◌, ◌≤◌, ◌<◌, ◌≡◌, true, false, List, [], ◌∷◌, ◌++◌, eqb, length, get_or, replicate, take}
+use Rattle.std.specs.Prelude.{ℕ, ◌+◌, ◌-◌, ◌*◌, ◌^◌, ◌≤◌, ◌<◌, ◌≡◌, true, false, List, [], ◌∷◌, ◌++◌, eqb, length, get_or, replicate, take, Ok, Err}
 use Rattle.refusals.specs.Numbers.{refusal_number}
 use Rattle.refusals.specs.declared.Refusal.{Refusal}
-use Rattle.refusals.specs.declared.Answer.TheVariants as answer
 use Rattle.gcm_spec.specs.Gcm.{Text, WrongTag, gcm_text, gcm_tag}
 use Rattle.ctr_spec.specs.CounterMode.{ctr}
 use Rattle.model.specs.declared.Geometry.{Geometry}
@@ -10,8 +9,6 @@ use Rattle.model.specs.declared.Session.{Session}
 use Rattle.model.specs.declared.Change.{Change}
 use Rattle.model.specs.declared.Change.TheVariants.{Claimed, Rewritten}
 use Rattle.model.specs.declared.Search.TheVariants.{Free, Bad, Full}
-use Rattle.model.specs.declared.OpenAnswer.TheVariants as open-answer
-use Rattle.model.specs.declared.ReleaseAnswer.TheVariants as release-answer
 use Rattle.model.specs.declared.WriteAnswer.TheVariants as write-answer
 use Rattle.model.specs.Parts.{choose, part, joined, patched}
 use Rattle.model.specs.Geometry.{Allowed, count_in, per_block, map_blocks, header_blocks, device_length, number_at, four_bytes, cell_start, cell_of}
@@ -112,8 +109,8 @@ LeavesAll A = (o : Outcome A) (before : List ℕ) (answer : A) (device maps owne
 
 -- No number, volume, slice, count, buffer, table, position or session is dropped.
 pub record AnswerLaws : Type 0 where
-  pub open_served : (k : ℕ) → open_result (open-answer.Opened k) ≡ OpenTo k
-  pub open_refused : (r : Refusal) → open_result (open-answer.Refused r) ≡ NotOpened (refusal_number r)
+  pub open_served : (k : ℕ) → open_result (Ok k) ≡ OpenTo k
+  pub open_refused : (r : Refusal) → open_result (Err r) ≡ NotOpened (refusal_number r)
   pub open_leaves : (o : OpenOutcome) (answer : OpenResult) (maps owners : List ℕ) (s : Session) → OpenLeaves o answer maps owners s
       → o ≡ record { answer = answer; maps = maps; owners = owners; session = s }
   pub read_served : (bytes old : List ℕ) → (read_number (Filled bytes) ≡ 0) × (read_buffer (Filled bytes) old ≡ bytes)
@@ -123,11 +120,11 @@ pub record AnswerLaws : Type 0 where
   pub write_served : (change : Change) (probes : ℕ) → write_result (write-answer.Served change probes) ≡ WriteResult.Served change probes
   pub write_refused : (r : Refusal) (probes : ℕ) → write_result (write-answer.Refused r probes) ≡ WriteResult.Refused (refusal_number r) probes
   pub write_leaves : LeavesAll WriteResult
-  pub release_served : (ψ : ℕ) → release_result (release-answer.Freed ψ) ≡ ReleaseResult.Freed ψ
-  pub release_refused : (r : Refusal) → release_result (release-answer.Refused r) ≡ ReleaseResult.Refused (refusal_number r)
+  pub release_served : (ψ : ℕ) → release_result (Ok ψ) ≡ ReleaseResult.Freed ψ
+  pub release_refused : (r : Refusal) → release_result (Err r) ≡ ReleaseResult.Refused (refusal_number r)
   pub release_leaves : LeavesAll ReleaseResult
-  pub close_served : close_result answer.Served ≡ CloseResult.Closed
-  pub close_refused : (r : Refusal) → close_result (answer.Refused r) ≡ CloseResult.Refused (refusal_number r)
+  pub close_served : (u : Unit) → close_result (Ok u) ≡ CloseResult.Closed
+  pub close_refused : (r : Refusal) → close_result (Err r) ≡ CloseResult.Refused (refusal_number r)
   pub close_leaves : LeavesAll CloseResult
   pub lent_served : (made old : List ℕ) (after position : ℕ)
       → (lent_number (LentResult.Served made after) ≡ 0) × (lent_list (LentResult.Served made after) old ≡ made)

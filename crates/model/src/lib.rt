@@ -5,7 +5,7 @@
 ghost use Rattle.model.specs.Theorems.{LayoutLaws, SealingLaws, AnswerLaws, ModelLaws};
 ghost use Rattle.model.specs.Bench.{cases, AllHold};
 
-use refusals::{Answer, Refusal};
+use refusals::Refusal;
 
 // The geometry of a device (document 01, "Geometry of a stick"): b is B, the bytes in a block; s is S, the data blocks in
 // a slice; p is P, the physical slices.
@@ -42,31 +42,18 @@ pub enum Change {
     Rewritten(usize),
 }
 
-// The answer of a write, with the number of places looked at.
+// The answer of a write, with the number of places looked at: document 01 names this form, a served case that wraps claimed or rewritten beside
+// the refusal case.
 #[derive(Clone, Copy)]
 pub enum WriteAnswer {
     Served { change: Change, probes: usize },
     Refused { refusal: Refusal, probes: usize },
 }
 
-// The answer of a release: the slice freed, or the refusal (document 02, P5).
-#[derive(Clone, Copy)]
-pub enum ReleaseAnswer {
-    Freed(usize),
-    Refused(Refusal),
-}
-
-// The answer of an opening: the opened volume k, or the refusal.
-#[derive(Clone, Copy)]
-pub enum OpenAnswer {
-    Opened(usize),
-    Refused(Refusal),
-}
-
-// What an opening hands back.
+// What an opening hands back: the opened volume k, or the refusal; and the session.
 #[derive(Clone, Copy)]
 pub struct Opening {
-    pub answer: OpenAnswer,
+    pub answer: Result<usize, Refusal>,
     pub session: Session,
 }
 
@@ -77,17 +64,17 @@ pub struct Written {
     pub session: Session,
 }
 
-// What a release hands back.
+// What a release hands back: the slice freed, or the refusal (document 02, P5); and the session.
 #[derive(Clone, Copy)]
 pub struct Released {
-    pub answer: ReleaseAnswer,
+    pub answer: Result<usize, Refusal>,
     pub session: Session,
 }
 
 // What a read or a close hands back.
 #[derive(Clone, Copy)]
 pub struct Reply {
-    pub answer: Answer,
+    pub answer: Result<(), Refusal>,
     pub session: Session,
 }
 
