@@ -12,32 +12,32 @@ ghost use Rattle.model.specs.Geometry.{header_start, map_start, slice_start, iv_
 ghost use Rattle.model.specs.Session.{key_in};
 
 use model::Geometry;
-use refusals::{Answer, Refusal};
+use refusals::Refusal;
 
 // ---- geometry
 
 // The refusal where B, S or P is not allowed. B is tested before it divides.
-pub fn check_geometry(refusal: Refusal, g: Geometry) -> Answer
+pub fn check_geometry(refusal: Refusal, g: Geometry) -> Result<(), Refusal>
     ensures { answer_number result ≡ bad_geometry (refusal_number refusal) g 0 }
 {
     if g.b != 1024 {
         if g.b != 4096 {
-            return Answer::Refused(refusal);
+            return Err(refusal);
         }
     }
     if g.s < 1 {
-        return Answer::Refused(refusal);
+        return Err(refusal);
     }
     if g.b / 16 < g.s {
-        return Answer::Refused(refusal);
+        return Err(refusal);
     }
     if g.p < 1 {
-        return Answer::Refused(refusal);
+        return Err(refusal);
     }
     if 4096 < g.p {
-        return Answer::Refused(refusal);
+        return Err(refusal);
     }
-    Answer::Served
+    Ok(())
 }
 
 // Whether a count of logical slices is not 1 to p (document 02, P4).
