@@ -12,7 +12,7 @@ ghost use Rattle.tables.specs.Flagged.{flagged, any_zero};
 ghost use Rattle.tables.specs.Settled.{Settled};
 
 use model::{Geometry, Search};
-use refusals::{Answer, Refusal};
+use refusals::Refusal;
 
 // The mark of an unmapped logical slice (document 01: FFFFFFFF).
 pub const UNMAPPED: usize = 4294967295;
@@ -152,17 +152,17 @@ pub fn is_missing(perm: &[u32], p: usize) -> bool
 }
 
 // 5, of the whole permutation: its length, then whether a slice below p is missing.
-pub fn check_permutation(perm: &[u32], p: usize) -> Answer
+pub fn check_permutation(perm: &[u32], p: usize) -> Result<(), Refusal>
     requires { p ≤ 4096 }
     ensures { answer_number result ≡ bad_permutation p perm.now 0 }
 {
     if perm.len() != p {
-        return Answer::Refused(Refusal::BadPermutation);
+        return Err(Refusal::BadPermutation);
     }
     if is_missing(perm, p) {
-        return Answer::Refused(Refusal::BadPermutation);
+        return Err(Refusal::BadPermutation);
     }
-    Answer::Served
+    Ok(())
 }
 
 // The place of a slice in the permutation: the first that names it, the permutation's length where none does (document 02, P5).
@@ -228,23 +228,23 @@ pub fn settle_one(
     counts: &[usize],
     x: usize,
     i: usize,
-) -> Answer
+) -> Result<(), Refusal>
     requires { (length maps.old ≡ 15 * length owners.old) × (length owners.old ≤ 4096) × (length counts.now ≡ 15) × (i < length maps.old) }
     ensures { Settled (settle (length owners.old) counts.now x i maps.old owners.old Tables)
         (answer_number result) maps.new owners.new }
 {
     if x == UNMAPPED {
-        return Answer::Served;
+        return Ok(());
     }
     let p = owners.len();
     let volume = i / p;
     if !is_placed(p, counts[volume], i % p, x) {
-        return Answer::Refused(Refusal::BadEntry);
+        return Err(Refusal::BadEntry);
     }
     if owners[x] != 0 {
-        return Answer::Refused(Refusal::SliceTwice);
+        return Err(Refusal::SliceTwice);
     }
     maps[i] = x as u32;
     owners[x] = (volume + 1) as u8;
-    Answer::Served
+    Ok(())
 }
