@@ -10,65 +10,67 @@ ghost use Rattle.model.specs.Maps.{bad_in_block};
 ghost use Rattle.model.specs.Conditions.{Usable};
 
 use model::{Geometry, Session};
-use refusals::{Answer, Refusal};
+use refusals::Refusal;
 
 // 20, 2 and 4, from the lengths of the device and the tables. The session, its counts too, is tested before any arithmetic
 // on it.
-pub fn check_standing(device: usize, maps: usize, owners: usize, session: Session) -> Answer
+pub fn check_standing(
+    device: usize,
+    maps: usize,
+    owners: usize,
+    session: Session,
+) -> Result<(), Refusal>
     ensures { answer_number result ≡ standing device maps owners session 0 }
 {
     if !session.opened {
-        return Answer::Refused(Refusal::NotOpen);
+        return Err(Refusal::NotOpen);
     }
     let g = session.geometry;
-    let bad = places::check_geometry(Refusal::NotOpen, g);
-    if let Answer::Refused(_) = bad {
-        return bad;
-    }
+    places::check_geometry(Refusal::NotOpen, g)?;
     if 14 < session.k {
-        return Answer::Refused(Refusal::NotOpen);
+        return Err(Refusal::NotOpen);
     }
     if g.p < session.start {
-        return Answer::Refused(Refusal::NotOpen);
+        return Err(Refusal::NotOpen);
     }
     let counts = session.counts;
     if places::any_bad_count(&counts, g.p, session.k + 1) {
-        return Answer::Refused(Refusal::NotOpen);
+        return Err(Refusal::NotOpen);
     }
     if device != places::device_length(g) {
-        return Answer::Refused(Refusal::DeviceLength);
+        return Err(Refusal::DeviceLength);
     }
     if maps != 15 * g.p {
-        return Answer::Refused(Refusal::TableLength);
+        return Err(Refusal::TableLength);
     }
     if owners != g.p {
-        return Answer::Refused(Refusal::TableLength);
+        return Err(Refusal::TableLength);
     }
-    Answer::Served
+    Ok(())
 }
 
 // 11, of a volume asked for where k is opened.
-pub fn check_volume(k: usize, volume: usize) -> Answer
+pub fn check_volume(k: usize, volume: usize) -> Result<(), Refusal>
     ensures { answer_number result ≡ asked_volume k volume 0 }
 {
     if k < volume {
-        return Answer::Refused(Refusal::VolumeAbove);
+        return Err(Refusal::VolumeAbove);
     }
-    Answer::Served
+    Ok(())
 }
 
 // 9, of the entry of a logical slice alone.
-fn check_entry(maps: &[u32], g: Geometry, volume: usize, logical: usize) -> Answer
+fn check_entry(maps: &[u32], g: Geometry, volume: usize, logical: usize) -> Result<(), Refusal>
     requires { slot g volume logical < length maps.now }
     ensures { answer_number result ≡ refuse (bad_entry g.p (entry maps.now g volume logical)) 9 0 }
 {
     let entry = tables::entry_at(maps, g, volume, logical);
     if entry != tables::UNMAPPED {
         if g.p <= entry {
-            return Answer::Refused(Refusal::BadEntry);
+            return Err(Refusal::BadEntry);
         }
     }
-    Answer::Served
+    Ok(())
 }
 
 // The lower of two numbers.
@@ -112,20 +114,17 @@ pub fn check_asked(
     volume: usize,
     address: usize,
     len: usize,
-) -> Answer
+) -> Result<(), Refusal>
     requires { Usable session × (length maps.now ≡ 15 * session.geometry.p) }
     ensures { answer_number result ≡ asked maps.now session volume address len }
 {
-    let bad = check_volume(session.k, volume);
-    if let Answer::Refused(_) = bad {
-        return bad;
-    }
+    check_volume(session.k, volume)?;
     let g = session.geometry;
     if block_count(session, volume) <= address {
-        return Answer::Refused(Refusal::AddressAbove);
+        return Err(Refusal::AddressAbove);
     }
     if len != g.b {
-        return Answer::Refused(Refusal::WrongLength);
+        return Err(Refusal::WrongLength);
     }
     check_entry(maps, g, volume, address / g.s)
 }
