@@ -11,7 +11,7 @@ ghost use Rattle.model.specs.Write.{claim_need, write_refusal, probes_to};
 ghost use Rattle.deciding.specs.Decided.{Decided, Looked, Sized, needed};
 
 use model::{Geometry, Search, Session};
-use refusals::{Answer, Refusal};
+use refusals::Refusal;
 
 // A write is refused, with the places looked at, and changes nothing; or it finds no free slice (22), which moves the start
 // place; or it rewrites a block of the slice that its entry names; or it claims the free slice that was found at a place of the
@@ -34,16 +34,13 @@ fn write_refusal(
     address: usize,
     len: usize,
     perm: usize,
-) -> Answer
+) -> Result<(), Refusal>
     ensures { answer_number result ≡ write_refusal device maps.now owners.now session volume address len perm }
 {
-    let bad = requests::check_standing(device, maps.len(), owners.len(), session);
-    if let Answer::Refused(_) = bad {
-        return bad;
-    }
+    requests::check_standing(device, maps.len(), owners.len(), session)?;
     let g = session.geometry;
     if perm != g.p {
-        return Answer::Refused(Refusal::BadPermutation);
+        return Err(Refusal::BadPermutation);
     }
     requests::check_asked(maps, session, volume, address, len)
 }
@@ -91,7 +88,7 @@ pub fn decide(
         len,
         perm.len(),
     );
-    if let Answer::Refused(r) = bad {
+    if let Err(r) = bad {
         return Decision::Refused {
             refusal: r,
             probes: 0,

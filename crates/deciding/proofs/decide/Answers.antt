@@ -16,10 +16,10 @@ use Rattle.deciding.proofs.Outcomes.{claim_block, claim_bad, bad_place, claim_fu
 use Rattle.deciding.proofs.decide.Goals as goal
 
 -- ---- needs
-pub returns-in-Refused : goal.returns-in-Refused
-returns-in-Refused c =
-    refused_first _ _ _ _ _ _ _ _ _ _ c.in-Refused.r
-    (sym (ap answer_number c.in-Refused.is) ∙ c.write_refusal-bad.ensures)
+pub returns-in-Err : goal.returns-in-Err
+returns-in-Err c =
+    refused_first _ _ _ _ _ _ _ _ _ _ c.in-Err.r
+    (sym (ap answer_number c.in-Err.is) ∙ c.write_refusal-bad.ensures)
 
 pub nonzero_div-logical : goal.nonzero_div-logical
 nonzero_div-logical c =
