@@ -12,7 +12,7 @@ ghost use Rattle.model.specs.Conditions.{Usable};
 ghost use Rattle.judging.specs.Judged.{slice_refusal};
 
 use model::Session;
-use refusals::{Answer, Refusal};
+use refusals::Refusal;
 
 // 9, 25 and 21, of a logical slice that may be asked for.
 fn check_slice(
@@ -22,21 +22,21 @@ fn check_slice(
     session: Session,
     volume: usize,
     logical: usize,
-) -> Answer
+) -> Result<(), Refusal>
     requires { Usable session × (length maps.now ≡ 15 * session.geometry.p) × (volume ≤ session.k) × (logical < session.geometry.p) }
     ensures { answer_number result ≡ slice_refusal maps.now session volume logical tape position }
 {
     let g = session.geometry;
     if requests::is_block_bad(maps, session, volume, logical) {
-        return Answer::Refused(Refusal::BadEntry);
+        return Err(Refusal::BadEntry);
     }
     if tables::entry_at(maps, g, volume, logical) == tables::UNMAPPED {
-        return Answer::Refused(Refusal::SliceUnmapped);
+        return Err(Refusal::SliceUnmapped);
     }
     if tape::is_short(tape, position, 16) {
-        return Answer::Refused(Refusal::TapeShort);
+        return Err(Refusal::TapeShort);
     }
-    Answer::Served
+    Ok(())
 }
 
 // All refusals of a release.
@@ -50,26 +50,17 @@ pub fn release_refusal(
     session: Session,
     volume: usize,
     logical: usize,
-) -> Answer
+) -> Result<(), Refusal>
     ensures { answer_number result ≡ release_refusal device (held maps.now owners.now position session) volume logical
         perm.now tape }
 {
-    let standing = requests::check_standing(device, maps.len(), owners.len(), session);
-    if let Answer::Refused(_) = standing {
-        return standing;
-    }
+    requests::check_standing(device, maps.len(), owners.len(), session)?;
     let g = session.geometry;
-    let permutation = tables::check_permutation(perm, g.p);
-    if let Answer::Refused(_) = permutation {
-        return permutation;
-    }
-    let above = requests::check_volume(session.k, volume);
-    if let Answer::Refused(_) = above {
-        return above;
-    }
+    tables::check_permutation(perm, g.p)?;
+    requests::check_volume(session.k, volume)?;
     let counts = session.counts;
     if counts[volume] <= logical {
-        return Answer::Refused(Refusal::AddressAbove);
+        return Err(Refusal::AddressAbove);
     }
     check_slice(maps, tape, position, session, volume, logical)
 }
