@@ -4,7 +4,7 @@
 // What a frame means is left to `frames`, how lines stand in an input to `walk`.
 #![tactic(auto)]
 
-ghost use Rattle.std.specs.Prelude.{◌≡◌, [], ◌∷◌, ◌++◌, ◌+◌, ◌*◌, ◌≤◌, ◌<◌, length};
+ghost use Rattle.std.specs.Prelude.{◌≡◌, [], ◌∷◌, ◌++◌, ◌+◌, ◌*◌, ◌≤◌, ◌<◌, length, MatchOption};
 ghost use Rattle.lines.specs.Hexadecimal.{value as value·of, digit as digit·of, digits as digits·of, decode as decode·of};
 ghost use Rattle.lines.specs.Answers.{served, answer_bytes, spelt_in, count_in, Writes};
 
@@ -13,11 +13,10 @@ use refusals::Refusal;
 // The longest output line: 13 bytes in hexadecimal, and byte 0a.
 pub const OUTPUT_BYTES: usize = 27;
 
-// The answer to a line: an accepted frame 01 or 02, a refusal, or a served frame 03.
+// A line that is served: an accepted frame 01 or 02, or a frame 03 with its values.
 #[derive(Clone, Copy)]
-pub enum WalkAnswer {
+pub enum WalkReply {
     Accepted,
-    Refused(Refusal),
     Served {
         slice: usize,
         block: usize,
@@ -28,62 +27,43 @@ pub enum WalkAnswer {
 
 // ---- hexadecimal
 
-// What a line spells: so many bytes, or not hexadecimal, or an odd number of digits.
-#[derive(Clone, Copy)]
-pub enum Decoded {
-    Bytes(usize),
-    Neither,
-}
-
-fn value(c: u8) -> u8
-    ensures { (result ≡ value·of c) × (result ≤ 16) }
+// The number that a digit stands for, `None` of a byte that is no digit. The engine has no dependencies, and std has no lowercase digits
+// alone.
+#[tactic(auto, using(std::proofs::lemmas::Bool::Decides::nat_tests), unfolding(crate::specs::Hexadecimal::value))]
+fn value(c: u8) -> Option<u8>
+    ensures { MatchOption result (16 ≤ value·of c) (λ v. (v ≡ value·of c) × (v < 16)) }
 {
-    if 48 <= c {
-        if c <= 57 {
-            return c - 48;
-        }
+    match c {
+        b'0'..=b'9' => Some(c - b'0'),
+        b'a'..=b'f' => Some(c - b'a' + 10),
+        _ => None,
     }
-    if 97 <= c {
-        if c <= 102 {
-            return c - 87;
-        }
-    }
-    16
 }
 
 fn digit(n: u8) -> u8
     requires { n < 16 }
     ensures { result ≡ digit·of n }
 {
-    if n < 10 { 48 + n } else { 87 + n }
+    if n < 10 { b'0' + n } else { b'a' - 10 + n }
 }
 
-// The bytes that a line of at most 1,026 digits spells, at the start of the frame.
-pub fn decode(line: &[u8], frame: &mut [u8]) -> Decoded
+// The bytes that a line of at most 1,026 digits spells, at the start of the frame: how many, or `None` where the line is not
+// hexadecimal or has an odd number of digits.
+pub fn decode(line: &[u8], frame: &mut [u8]) -> Option<usize>
     requires { (length line.now ≤ 1026) × (length frame.old ≡ 513) }
     ensures line_value { decode·of line.now ≡ spelt_in result frame.new }
     ensures result_bound { count_in result ≤ 513 }
 {
     let n = line.len() / 2;
     if 2 * n != line.len() {
-        return Decoded::Neither;
+        return None;
     }
-    let mut i = 0;
-    while i < n {
-        let at = 2 * i;
-        let next = at + 1;
-        let h = value(line[at]);
-        let l = value(line[next]);
-        if 16 <= h {
-            return Decoded::Neither;
-        }
-        if 16 <= l {
-            return Decoded::Neither;
-        }
+    for i in 0..n {
+        let h = value(line[2 * i])?;
+        let l = value(line[2 * i + 1])?;
         frame[i] = 16 * h + l;
-        i += 1;
     }
-    Decoded::Bytes(n)
+    Some(n)
 }
 
 // The digits of bytes and byte 0a, at the start of the output.
@@ -91,17 +71,12 @@ fn print_bytes(bytes: &[u8], out: &mut [u8]) -> usize
     requires { 2 * length bytes.now + 1 ≤ length out.old }
     ensures { Writes (digits·of bytes.now ++ (10 ∷ [])) out.old out.new result }
 {
-    let mut i = 0;
-    while i < bytes.len() {
-        let b = bytes[i];
-        let at = 2 * i;
-        let next = at + 1;
-        out[at] = digit(b / 16);
-        out[next] = digit(b % 16);
-        i += 1;
+    for (i, b) in bytes.iter().enumerate() {
+        out[2 * i] = digit(*b / 16);
+        out[2 * i + 1] = digit(*b % 16);
     }
-    let end = 2 * i;
-    out[end] = 10;
+    let end = 2 * bytes.len();
+    out[end] = b'\n';
     end + 1
 }
 
@@ -111,35 +86,29 @@ fn print_bytes(bytes: &[u8], out: &mut [u8]) -> usize
 fn served_bytes(slice: usize, block: usize, probes: usize, position: usize) -> [u8; 13]
     ensures { result ≡ served slice block probes position }
 {
+    let s = slice.to_be_bytes();
+    let b = block.to_be_bytes();
+    let n = probes.to_be_bytes();
+    let p = position.to_be_bytes();
     [
-        0,
-        (slice / 256 % 256) as u8,
-        (slice % 256) as u8,
-        (block / 16777216 % 256) as u8,
-        (block / 65536 % 256) as u8,
-        (block / 256 % 256) as u8,
-        (block % 256) as u8,
-        (probes / 256 % 256) as u8,
-        (probes % 256) as u8,
-        (position / 16777216 % 256) as u8,
-        (position / 65536 % 256) as u8,
-        (position / 256 % 256) as u8,
-        (position % 256) as u8,
+        0, s[6], s[7], b[4], b[5], b[6], b[7], n[6], n[7], p[4], p[5], p[6], p[7],
     ]
 }
 
 // The output line of an answer, at the start of the output; answers its length.
-pub fn print(answer: WalkAnswer, out: &mut [u8; OUTPUT_BYTES]) -> usize
+pub fn print(answer: Result<WalkReply, Refusal>, out: &mut [u8; OUTPUT_BYTES]) -> usize
     ensures { Writes (digits·of (answer_bytes answer) ++ (10 ∷ [])) out.old out.new result }
 {
     match answer {
-        WalkAnswer::Accepted => print_bytes(&[0u8], out),
-        WalkAnswer::Refused(r) => print_bytes(&[refusals::refusal_number(r)], out),
-        WalkAnswer::Served {
-            slice,
-            block,
-            probes,
-            position,
-        } => print_bytes(&served_bytes(slice, block, probes, position), out),
+        Ok(WalkReply::Accepted) => print_bytes(&[0u8], out),
+        Ok(
+            WalkReply::Served {
+                slice,
+                block,
+                probes,
+                position,
+            },
+        ) => print_bytes(&served_bytes(slice, block, probes, position), out),
+        Err(r) => print_bytes(&[u8::from(r)], out),
     }
 }

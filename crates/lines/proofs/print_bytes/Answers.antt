@@ -3,7 +3,6 @@ use Prim.Native.Nat.{◌*◌}
 use mathlib.Core.Path.{◌≡◌, sym}
 use mathlib.Core.List.{[], ◌∷◌}
 use native.Mathlib.Omega.{arith}
-use borrow.Author.Rules.{rules}
 use lib.ListN.{length, length-set, length-append}
 use lib.Seq.{take-length}
 use Rattle.lines.specs.Hexadecimal.{digits}
@@ -12,25 +11,12 @@ use Rattle.lines.proofs.print_bytes.Goals as goal
 
 pub loop-i-init : goal.loop-i-init
 unfolding digits
-loop-i-init c = (search rules, search rules, sym (overlay_nil c.args.out.now))
-
-pub digit-requires : goal.digit-requires
-digit-requires c = omega (arith, c.type_inv.bytes c.loop-i.i)
-
-pub bounds-out-next : goal.bounds-out-next
-bounds-out-next c = simp length-set (omega arith)
+loop-i-init c = sym (overlay_nil c.args.out.now)
 
 pub loop-i-preserved : goal.loop-i-preserved
 loop-i-preserved c =
     let l = c.loop-i in
-    let a = c.args in (
-      search rules,
-      simp length-set l.invariant.1,
-      rw (l.invariant.2, c.digit.ensures, c.digit-in-loop-i.ensures) (digits_turn a.bytes.now a.out.now l.i (omega arith)),
-    )
-
-pub shape_of-out : goal.shape_of-out
-shape_of-out c = simp length-set c.loop-i.invariant.1
+    rw (l.invariant, c.digit.ensures, c.digit-in-loop-i.ensures) (digits_turn c.args.bytes.now c.args.out.now l.i c.loop-i-test.true)
 
 pub returns : goal.returns
 returns c =
@@ -39,7 +25,7 @@ returns c =
     let bytes = a.bytes.now in
     let e : l.i ≡ length bytes = omega arith in
     record {
-      put = rw (l.invariant.2, e, take-length) (overlay_snoc a.out.now (digits bytes) (2 * length bytes) 10 (digits-length bytes));
+      put = rw (l.invariant, e, take-length) (overlay_snoc a.out.now (digits bytes) (2 * length bytes) 10 (digits-length bytes));
       long = omega (arith, length-append (digits bytes) (10 ∷ []), digits-length bytes);
       fits = simp length-set (omega arith);
     }

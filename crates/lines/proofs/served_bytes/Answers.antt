@@ -6,4 +6,4 @@ use Rattle.lines.proofs.served_bytes.Goals as goal
 
 pub returns : goal.returns
 unfolding big_endian
-returns c = sym (simp div-one)
+returns c = rw (c.to_be_bytes-s.ensures, c.to_be_bytes-b.ensures, c.to_be_bytes-n.ensures, c.to_be_bytes-p.ensures) (sym (simp div-one))
