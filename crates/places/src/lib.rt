@@ -20,21 +20,10 @@ use refusals::Refusal;
 pub fn check_geometry(refusal: Refusal, g: Geometry) -> Result<(), Refusal>
     ensures { answer_number result ≡ bad_geometry (refusal_number refusal) g 0 }
 {
-    if g.b != 1024 {
-        if g.b != 4096 {
-            return Err(refusal);
-        }
-    }
-    if g.s < 1 {
+    if g.b != 1024 && g.b != 4096 {
         return Err(refusal);
     }
-    if g.b / 16 < g.s {
-        return Err(refusal);
-    }
-    if g.p < 1 {
-        return Err(refusal);
-    }
-    if 4096 < g.p {
+    if g.s < 1 || g.b / 16 < g.s || g.p < 1 || 4096 < g.p {
         return Err(refusal);
     }
     Ok(())
@@ -52,14 +41,7 @@ pub fn any_bad_count(counts: &[usize], p: usize, n: usize) -> bool
     requires { n ≤ length counts.now }
     ensures { result ≡ any_bad_count p counts.now n }
 {
-    let mut i = 0;
-    while i < n {
-        if is_bad_count(p, counts[i]) {
-            return true;
-        }
-        i += 1;
-    }
-    false
+    counts[..n].iter().any(|&count| is_bad_count(p, count))
 }
 
 // The entries in a map block.
@@ -71,15 +53,16 @@ pub fn entries_per_block(g: Geometry) -> usize
 }
 
 // m, the map blocks of each volume.
+#[tactic(auto, unfolding(model::specs::Geometry::map_blocks))]
 pub fn map_blocks(g: Geometry) -> usize
     requires { Allowed g }
     ensures { result ≡ map_blocks g }
 {
-    let e = entries_per_block(g);
-    (g.p + (e - 1)) / e
+    g.p.div_ceil(entries_per_block(g))
 }
 
 // H, the header blocks.
+#[tactic(auto, using(model::proofs::Bounds::map_blocks_small), unfolding(model::specs::Geometry::header_blocks))]
 pub fn header_blocks(g: Geometry) -> usize
     requires { Allowed g }
     ensures { result ≡ header_blocks g }
@@ -88,6 +71,7 @@ pub fn header_blocks(g: Geometry) -> usize
 }
 
 // The bytes of a device.
+#[tactic(auto, using(model::proofs::Bounds::slices_small, model::proofs::Bounds::header_blocks_small, model::proofs::Bounds::bytes_small), unfolding(model::specs::Geometry::device_length))]
 pub fn device_length(g: Geometry) -> usize
     requires { Allowed g }
     ensures { result ≡ device_length g }
@@ -101,11 +85,11 @@ pub fn key_in<'a>(keys: &'a [u8], volume: usize) -> &'a [u8]
     ensures { (result.now ≡ key_in keys.now volume) × (length result.now ≡ 32) }
 {
     let from = 32 * volume;
-    let to = from + 32;
-    &keys[from..to]
+    &keys[from..from + 32]
 }
 
 // Where the header of a volume begins.
+#[tactic(auto, using(model::proofs::Bounds::headers_small, model::proofs::Bounds::map_blocks_small, model::proofs::Bounds::map_start_small))]
 pub fn header_start(g: Geometry, volume: usize) -> usize
     requires { Allowed g × (volume ≤ 14) }
     ensures { result ≡ header_start g volume }
@@ -122,6 +106,7 @@ pub fn map_start(g: Geometry, volume: usize) -> usize
 }
 
 // Where a slice begins.
+#[tactic(auto, using(model::proofs::Bounds::slices_small, model::proofs::Bounds::header_blocks_small, model::proofs::Bounds::bytes_small), unfolding(model::specs::Geometry::slice_start))]
 pub fn slice_start(g: Geometry, slice: usize) -> usize
     requires { Allowed g × (slice < g.p) }
     ensures { result ≡ slice_start g slice }
@@ -138,6 +123,7 @@ pub fn iv_start(g: Geometry, slice: usize, j: usize) -> usize
 }
 
 // Where data block j of a slice begins.
+#[tactic(auto, using(model::proofs::Bounds::device_length_small, model::proofs::Bounds::block_fits), unfolding(model::specs::Geometry::block_start))]
 pub fn block_start(g: Geometry, slice: usize, j: usize) -> usize
     requires { Allowed g × (slice < g.p) × (j < g.s) }
     ensures { result ≡ block_start g slice j }
@@ -151,11 +137,7 @@ pub fn block_start(g: Geometry, slice: usize, j: usize) -> usize
 pub fn clear(buf: &mut [u8])
     ensures { buf.new ≡ replicate (length buf.old) 0 }
 {
-    let mut i = 0;
-    while i < buf.len() {
-        buf[i] = 0;
-        i += 1;
-    }
+    buf.fill(0);
 }
 
 // Bytes over what stood from a place on.
@@ -163,27 +145,17 @@ pub fn store(device: &mut [u8], at: usize, d: &[u8])
     requires { at + length d.now ≤ length device.old }
     ensures { device.new ≡ overlay device.old at d.now }
 {
-    let end = at + d.len();
-    block::copy(&mut device[at..end], d);
+    device[at..at + d.len()].copy_from_slice(d);
 }
 
 // ---- numbers
-
-fn wide(x: u8) -> usize
-    ensures { (result ≡ x) × (result < 256) }
-{
-    x as usize
-}
 
 // The number in the four bytes from a place on.
 pub fn number_at(s: &[u8], at: usize) -> usize
     requires { at + 4 ≤ length s.now }
     ensures { result ≡ number_at at s.now }
 {
-    let b = at + 1;
-    let c = at + 2;
-    let d = at + 3;
-    ((wide(s[at]) * 256 + wide(s[b])) * 256 + wide(s[c])) * 256 + wide(s[d])
+    u32::from_be_bytes([s[at], s[at + 1], s[at + 2], s[at + 3]]) as usize
 }
 
 // The four bytes of a number over what stood from a place on.
@@ -191,8 +163,6 @@ pub fn put_number(buf: &mut [u8], at: usize, n: usize)
     requires { at + 4 ≤ length buf.old }
     ensures { buf.new ≡ overlay buf.old at (four_bytes n) }
 {
-    buf[at] = (n / 16777216 % 256) as u8;
-    buf[at + 1] = (n / 65536 % 256) as u8;
-    buf[at + 2] = (n / 256 % 256) as u8;
-    buf[at + 3] = (n % 256) as u8;
+    let bytes = n.to_be_bytes();
+    store(buf, at, &bytes[4..]);
 }

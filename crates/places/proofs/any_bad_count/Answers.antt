@@ -1,30 +1,18 @@
--- `places::any_bad_count` meets its contract. None of the i counts passed is bad. Assumes nothing.
-use mathlib.Core.Path.{◌≡◌, refl, sym, ap, ◌∙◌}
-use native.Mathlib.Omega.{arith}
+-- `places::any_bad_count` meets its contract. Assumes nothing.
+use mathlib.Core.Path.{◌≡◌, ◌∙◌}
+use lib.ListN.{take}
 use borrow.Author.Rules.{rules}
-use Rattle.model.specs.Parts.{any_below}
-use Rattle.model.specs.Geometry.{any_bad_count}
-use Rattle.model.proofs.Below.{any_below_turn, any_below-found}
+use Rattle.std.specs.List.{list_any}
+use Rattle.std.proofs.lemmas.Iterator.{YieldsList-from_slice}
+use Rattle.std.proofs.lemmas.Iterator.Search.{any_from_yields_List}
+use Rattle.model.specs.Geometry.{bad_count, any_bad_count}
+use Rattle.places.proofs.Any.{list_any-below}
 use Rattle.places.proofs.any_bad_count.Goals as goal
 
-pub loop-i-init : goal.loop-i-init
-unfolding any_bad_count any_below
-loop-i-init c = (search rules, refl)
-
-pub returns-then-is_bad_count : goal.returns-then-is_bad_count
-unfolding any_bad_count
-returns-then-is_bad_count c =
-    let a = c.args in
-    sym (any_below-found _ a.n c.loop-i.i c.loop-i-test.true (sym c.is_bad_count.ensures ∙ c.if-is_bad_count.true))
-
-pub loop-i-preserved : goal.loop-i-preserved
-unfolding any_bad_count
-loop-i-preserved c =
-    let l = c.loop-i in
-    (search rules, any_below_turn _ l.i l.invariant.1 (sym c.is_bad_count.ensures ∙ c.if-is_bad_count.false))
-
 pub returns : goal.returns
+unfolding any_bad_count
 returns c =
     let a = c.args in
-    let e : a.n ≡ c.loop-i.i = omega arith in
-    sym (ap (any_bad_count a.p a.counts.now) e ∙ c.loop-i.invariant.1)
+    let found : c.any.result ≡ list_any (bad_count a.p) (take a.n a.counts.now) =
+    any_from_yields_List (bad_count a.p) _ _ _ c.any.ensures.ran (YieldsList-from_slice (take a.n a.counts.now) (search rules)) (λ x b q k. search rules) in
+    found ∙ list_any-below (bad_count a.p) a.counts.now a.n c.requires

@@ -1,21 +1,14 @@
 -- `places::put_number` meets its contract. Assumes nothing.
 use mathlib.Core.Path.{ap, ◌∙◌}
-use native.Mathlib.Omega.{arith}
-use lib.ListN.{length-set}
+use mathlib.Core.List.{List}
+use Prim.Native.Nat.{ℕ}
+use lib.ListN.{take, drop}
 use Rattle.model.specs.Parts.{overlay}
-use Rattle.places.proofs.Numbers.{four_bytes-digits, set-four}
+use Rattle.places.proofs.Numbers.{low_four}
 use Rattle.places.proofs.put_number.Goals as goal
-
-pub bounds-buf-at-2 : goal.bounds-buf-at-2
-bounds-buf-at-2 c = simp length-set (omega arith)
-
-pub bounds-buf-at-3 : goal.bounds-buf-at-3
-bounds-buf-at-3 c = simp length-set (omega arith)
-
-pub bounds-buf-at-4 : goal.bounds-buf-at-4
-bounds-buf-at-4 c = simp length-set (omega arith)
 
 pub returns : goal.returns
 returns c =
     let a = c.args in
-    set-four a.buf.now a.at _ _ _ _ c.requires ∙ ap (overlay a.buf.now a.at) (four_bytes-digits a.n)
+    c.store.ensures ∙ ap (λ (bytes : List ℕ). overlay a.buf.now a.at (take 4 (drop 4 bytes))) c.to_be_bytes-bytes.ensures
+    ∙ ap (overlay a.buf.now a.at) (low_four a.n)
