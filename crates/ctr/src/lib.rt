@@ -19,7 +19,7 @@ ghost use Rattle.ctr.specs.Chunks.{add_stream};
 use aes::RoundKeys;
 use block::Block;
 use keystream::BUFFER_BYTES;
-use refusals::{Answer, Refusal};
+use refusals::Refusal;
 
 // Texts of so many bytes and more are enciphered on bit planes.
 const PLANES_FROM: usize = 192;
@@ -163,25 +163,33 @@ pub fn ctr_into(key: &[u8], iv: &[u8], text: &[u8], out: &mut [u8])
     ctr_from_into(key, iv, 0, text, out);
 }
 
+// The refusal of a call for the lengths of key, IV, text and output: 3 or 13.
+pub fn check_lengths(key: usize, iv: usize, text: usize, out: usize) -> Result<(), Refusal>
+    ensures { answer_number result ≡ ctr_refusal key iv text out }
+{
+    if key != 32 {
+        return Err(Refusal::KeyLength);
+    }
+    if iv != 16 {
+        return Err(Refusal::WrongLength);
+    }
+    if text > 4096 {
+        return Err(Refusal::WrongLength);
+    }
+    if out != text {
+        return Err(Refusal::WrongLength);
+    }
+    Ok(())
+}
+
 // Counter mode of a text of 0 to 4,096 bytes, or refusal 3 or 13, by which the output stays as it was.
-pub fn counter_mode(key: &[u8], iv: &[u8], text: &[u8], out: &mut [u8]) -> Answer
+pub fn counter_mode(key: &[u8], iv: &[u8], text: &[u8], out: &mut [u8]) -> Result<(), Refusal>
     ensures answer { answer_number result ≡ ctr_refusal (length key.now) (length iv.now) (length text.now)
         (length out.old) }
     ensures output { out.new ≡ unless_refused (answer_number result) (ctr key.now iv.now text.now)
         out.old }
 {
-    if key.len() != 32 {
-        return Answer::Refused(Refusal::KeyLength);
-    }
-    if iv.len() != 16 {
-        return Answer::Refused(Refusal::WrongLength);
-    }
-    if text.len() > 4096 {
-        return Answer::Refused(Refusal::WrongLength);
-    }
-    if out.len() != text.len() {
-        return Answer::Refused(Refusal::WrongLength);
-    }
+    check_lengths(key.len(), iv.len(), text.len(), out.len())?;
     ctr_into(key, iv, text, out);
-    Answer::Served
+    Ok(())
 }

@@ -1,26 +1,17 @@
 -- `ctr::counter_mode` meets its contract. Assumes nothing.
-use mathlib.Core.Path.{refl}
-use borrow.Author.Rules.{rules}
+use native.Mathlib.Omega.{arith}
 use Rattle.refusals.specs.Numbers.{unless_refused}
-use Rattle.ctr.proofs.Refusals.{ctr_key, ctr_iv, ctr_text, ctr_out, ctr_served}
+use Rattle.ctr.proofs.Refusals.{ctr_refusal_none, err_kept}
 use Rattle.ctr.proofs.counter_mode.Goals as goal
 
-pub returns-then-key-ne32 : goal.returns-then-key-ne32
-unfolding unless_refused
-returns-then-key-ne32 c = record { answer = ctr_key _ _ _ _ c.if-key-ne32.true; output = refl }
+pub returns-in_err-check_lengths-clause-output : goal.returns-in_err-check_lengths-clause-output
+returns-in_err-check_lengths-clause-output c = err_kept _ _ _ c.from_residual.ensures.0
 
-pub returns-then-iv-ne16 : goal.returns-then-iv-ne16
-unfolding unless_refused
-returns-then-iv-ne16 c = record { answer = ctr_iv _ _ _ _ c.if-key-ne32.false c.if-iv-ne16.true; output = refl }
+pub ctr_into-requires : goal.ctr_into-requires
+ctr_into-requires c =
+    let q = ctr_refusal_none _ _ _ _ c.in_ok-check_lengths.ensures in
+    record { key_len = q.key; iv_len = q.iv; out_len = q.out; text_len_bound = omega (arith, q.text) }
 
-pub returns-then-text-gt4096 : goal.returns-then-text-gt4096
+pub returns-clause-output : goal.returns-clause-output
 unfolding unless_refused
-returns-then-text-gt4096 c = record { answer = ctr_text _ _ _ _ (search rules) (search rules) (search rules); output = refl }
-
-pub returns-then-out-text : goal.returns-then-out-text
-unfolding unless_refused
-returns-then-out-text c = record { answer = ctr_out _ _ _ _ (search rules) (search rules) (search rules) c.if-out-text.true; output = refl }
-
-pub returns : goal.returns
-unfolding unless_refused
-returns c = record { answer = ctr_served _ _ _ _ (search rules) (search rules) (search rules) (search rules); output = c.ctr_into.ensures }
+returns-clause-output c = c.ctr_into.ensures
