@@ -16,38 +16,37 @@ module _ (k v a t g o : ℕ) where
     pub tag : g ≡ 16
     pub out : o ≡ t
 
-  module _ {n : ℕ} (answered : n ≡ gcm_refusal k v a t g o 0) where
-    pub gcm_refusal_none : n ≡ 0 → Right
-    unfolding gcm_refusal
-    gcm_refusal_none e =
-        let p1 = refuse_none _ _ _ (sym answered ∙ e) in
-        let p2 = refuse_none _ _ _ p1.1 in
-        let p3 = refuse_none _ _ _ p2.1 in
-        let p4 = refuse_none _ _ _ p3.1 in
-        let p5 = refuse_none _ _ _ p4.1 in
-        let p6 = refuse_none _ _ _ p5.1 in
-        record {
-          key = eqb-true _ _ (not-false _ p1.0);
-          iv = eqb-true _ _ (not-false _ p2.0);
-          aad = ltb-false _ _ p3.0;
-          text = ltb-false _ _ p4.0;
-          tag = eqb-true _ _ (not-false _ p5.0);
-          out = eqb-true _ _ (not-false _ p6.0);
-        }
+  pub gcm_refusal_none : 0 ≡ gcm_refusal k v a t g o 0 → Right
+  unfolding gcm_refusal
+  gcm_refusal_none e =
+      let p1 = refuse_none _ _ _ (sym e) in
+      let p2 = refuse_none _ _ _ p1.1 in
+      let p3 = refuse_none _ _ _ p2.1 in
+      let p4 = refuse_none _ _ _ p3.1 in
+      let p5 = refuse_none _ _ _ p4.1 in
+      let p6 = refuse_none _ _ _ p5.1 in
+      record {
+        key = eqb-true _ _ (not-false _ p1.0);
+        iv = eqb-true _ _ (not-false _ p2.0);
+        aad = ltb-false _ _ p3.0;
+        text = ltb-false _ _ p4.0;
+        tag = eqb-true _ _ (not-false _ p5.0);
+        out = eqb-true _ _ (not-false _ p6.0);
+      }
 
-    pub gcm_refusal_rest : n ≡ 0 → (r : ℕ) → r ≡ gcm_refusal k v a t g o r
-    unfolding gcm_refusal refuse
-    gcm_refusal_rest e r = let q = gcm_refusal_none e in search (rules, eq-eqb, le-ltb)
+  pub gcm_refusal_rest : 0 ≡ gcm_refusal k v a t g o 0 → (r : ℕ) → r ≡ gcm_refusal k v a t g o r
+  unfolding gcm_refusal refuse
+  gcm_refusal_rest e r = let q = gcm_refusal_none e in search (rules, eq-eqb, le-ltb)
 
-    pub gcm_refusal_first : 0 < n → (r : ℕ) → n ≡ gcm_refusal k v a t g o r
-    unfolding gcm_refusal
-    gcm_refusal_first l r =
-        answered
-        ∙ sym
-        (refuse-first _ 3 _
-        (refuse-first _ 13 _
-        (refuse-first _ 13 _
-        (refuse-first _ 13 _
-        (refuse-first _ 13 _
-        (refuse-first _ 13 (λ rest. rest) rest_first)))))
-        (rw answered at l) r)
+  pub gcm_refusal_first : {n : ℕ} → n ≡ gcm_refusal k v a t g o 0 → 0 < n → (r : ℕ) → n ≡ gcm_refusal k v a t g o r
+  unfolding gcm_refusal
+  gcm_refusal_first answered l r =
+      answered
+      ∙ sym
+      (refuse-first _ 3 _
+      (refuse-first _ 13 _
+      (refuse-first _ 13 _
+      (refuse-first _ 13 _
+      (refuse-first _ 13 _
+      (refuse-first _ 13 (λ rest. rest) rest_first)))))
+      (rw answered at l) r)

@@ -16,7 +16,7 @@ ghost use Rattle.gcm.specs.Call.{gcm_refusal, seal_refusal, open_refusal, opened
 
 use aes::RoundKeys;
 use block::Block;
-use refusals::{Answer, Refusal};
+use refusals::Refusal;
 
 // The hash subkey H (7.1, step 1).
 fn hash_subkey(t: &[u8; 256], keys: RoundKeys) -> Block
@@ -79,10 +79,8 @@ fn same_tag(a: &[u8], b: &[u8]) -> bool
     ensures { result ≡ same a.now b.now }
 {
     let mut d: u8 = 0;
-    let mut i: usize = 0;
-    while i < 16 {
-        d = d | (a[i] ^ b[i]);
-        i += 1;
+    for i in 0..16 {
+        d |= a[i] ^ b[i];
     }
     d == 0
 }
@@ -104,7 +102,7 @@ pub fn seal_into(key: &[u8], iv: &[u8], aad: &[u8], text: &[u8], out: &mut [u8],
     let c = counter_block(iv, 2);
     ctr::apply_keystream(&t, keys, c, 0, text, out);
     let m = tag_of(&t, keys, iv, aad, out);
-    block::copy(tag, &m);
+    tag.copy_from_slice(&m);
 }
 
 // Opening (7.2): whether the tag is right, and the text into out where it is.
@@ -131,28 +129,28 @@ pub fn open_into(key: &[u8], iv: &[u8], aad: &[u8], text: &[u8], tag: &[u8], out
 }
 
 // The refusal of either call for the lengths of what it was handed: 3 or 13.
-fn lengths_refusal(key: usize, iv: usize, aad: usize, text: usize, tag: usize, out: usize) -> Answer
+fn lengths_refusal(key: usize, iv: usize, aad: usize, text: usize, tag: usize, out: usize) -> Result<(), Refusal>
     ensures { answer_number result ≡ gcm_refusal key iv aad text tag out 0 }
 {
     if key != 32 {
-        return Answer::Refused(Refusal::KeyLength);
+        return Err(Refusal::KeyLength);
     }
     if iv != 12 {
-        return Answer::Refused(Refusal::WrongLength);
+        return Err(Refusal::WrongLength);
     }
     if aad > 16 {
-        return Answer::Refused(Refusal::WrongLength);
+        return Err(Refusal::WrongLength);
     }
     if text > 256 {
-        return Answer::Refused(Refusal::WrongLength);
+        return Err(Refusal::WrongLength);
     }
     if tag != 16 {
-        return Answer::Refused(Refusal::WrongLength);
+        return Err(Refusal::WrongLength);
     }
     if out != text {
-        return Answer::Refused(Refusal::WrongLength);
+        return Err(Refusal::WrongLength);
     }
-    Answer::Served
+    Ok(())
 }
 
 // A text of 0 to 256 bytes with 0 to 16 of associated data sealed, or refusal 3 or 13, by which the buffers stay.
@@ -163,7 +161,7 @@ pub fn seal(
     text: &[u8],
     out: &mut [u8],
     tag: &mut [u8],
-) -> Answer
+) -> Result<(), Refusal>
     ensures answer { answer_number result ≡ seal_refusal key.now iv.now aad.now text.now
         tag.old out.old }
     ensures output { out.new ≡ unless_refused (answer_number result) (gcm_text key.now iv.now text.now)
@@ -172,41 +170,35 @@ pub fn seal(
         (gcm_tag key.now iv.now aad.now (gcm_text key.now iv.now text.now))
         tag.old }
 {
-    let bad = lengths_refusal(
+    lengths_refusal(
         key.len(),
         iv.len(),
         aad.len(),
         text.len(),
         tag.len(),
         out.len(),
-    );
-    if let Answer::Refused(_) = bad {
-        return bad;
-    }
+    )?;
     seal_into(key, iv, aad, text, out, tag);
-    Answer::Served
+    Ok(())
 }
 
 // A ciphertext of 0 to 256 bytes opened, or refusal 3, 13 or 15, by which the output stays as it was.
-pub fn open(key: &[u8], iv: &[u8], aad: &[u8], text: &[u8], tag: &[u8], out: &mut [u8]) -> Answer
+pub fn open(key: &[u8], iv: &[u8], aad: &[u8], text: &[u8], tag: &[u8], out: &mut [u8]) -> Result<(), Refusal>
     ensures answer { answer_number result ≡ open_refusal key.now iv.now aad.now text.now
         tag.now out.old }
     ensures output { out.new ≡ unless_refused (answer_number result) (gcm_text key.now iv.now text.now)
         out.old }
 {
-    let bad = lengths_refusal(
+    lengths_refusal(
         key.len(),
         iv.len(),
         aad.len(),
         text.len(),
         tag.len(),
         out.len(),
-    );
-    if let Answer::Refused(_) = bad {
-        return bad;
-    }
+    )?;
     if open_into(key, iv, aad, text, tag, out) {
-        return Answer::Served;
+        return Ok(());
     }
-    Answer::Refused(Refusal::TagDiffers)
+    Err(Refusal::TagDiffers)
 }

@@ -8,16 +8,16 @@ use Rattle.gcm.proofs.same_tag.Goals as goal
 
 pub loop-i-init : goal.loop-i-init
 unfolding same
-loop-i-init c = (omega arith, refl)
+loop-i-init c = refl
 
 pub loop-i-preserved : goal.loop-i-preserved
 loop-i-preserved c =
     let l = c.loop-i in
     let a = c.args in
-    (omega arith, same_turn l.d l.i a.a.now a.b.now (omega arith) (omega arith) l.invariant.1)
+    same_turn l.d l.i a.a.now a.b.now (omega arith) (omega arith) l.invariant
 
 pub returns : goal.returns
 returns c =
     let l = c.loop-i in
     let a = c.args in
-    l.invariant.1 ∙ ap₂ same (take_all l.i a.a.now (omega arith)) (take_all l.i a.b.now (omega arith))
+    l.invariant ∙ ap₂ same (take_all l.i a.a.now (omega arith)) (take_all l.i a.b.now (omega arith))
