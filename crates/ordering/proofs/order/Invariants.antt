@@ -1,13 +1,11 @@
 -- `ordering::order` meets its contract. Before each turn the run from here on comes to what the whole run does. Assumes nothing.
-use mathlib.Core.Path.{◌≡◌}
-use Prim.Native.Nat.{◌-◌, ◌≤◌, ◌<◌}
-use lib.ListN.{length}
+use Rattle.std.proofs.Common.{◌≡◌, ◌-◌, ◌≤◌, ◌<◌, length}
 use Rattle.ordering.proofs.Turns.{onward}
 use Rattle.ordering.proofs.order.Given as goal
 
 abbrev pub invariant-loop-place : goal.invariant-loop-place
 invariant-loop-place l =
-    (l.position ≤ l.at) × (l.at ≤ length l.tape) × (length l.list ≡ length l.initial.list) × (l.place < length l.initial.list)
+    (l.position ≤ l.at) × (l.at ≤ length l.tape) × (l.place < length l.initial.list)
     × (onward l.place l.list l.tape l.at ≡ onward (length l.initial.list - 1) l.initial.list l.tape l.position)
 
 abbrev pub decreases-loop-place : goal.decreases-loop-place
