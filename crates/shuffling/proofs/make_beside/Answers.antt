@@ -1,10 +1,7 @@
 -- `shuffling::make_beside` meets its contract. Assumes nothing.
-use mathlib.Core.List.{List}
-use mathlib.Core.Path.{◌≡◌, ap, ◌∙◌}
-use Prim.Native.Nat.{ℕ, ◌-◌}
-use lib.ListN.{length, drop}
-use Rattle.refusals.specs.Numbers.{answer_number, unless_refused}
-use Rattle.refusals.proofs.Positive.{answer_positive}
+use Rattle.std.proofs.Common.{ℕ, ◌≡◌, refl, ap, ◌∙◌, ◌-◌, List, length, drop, rules, Err}
+use Rattle.refusals.specs.Numbers.{unless_refused}
+use Rattle.refusals.proofs.Positive.{refusal_positive}
 use Rattle.model.specs.Shuffle.{in_order, run, draws, shuffled}
 use Rattle.ordering.specs.Made.{Makes}
 use Rattle.ordering.proofs.Exits.{makes_same, makes_kept, makes_stored}
@@ -21,12 +18,14 @@ module _ (list perm filled moved tape : List ℕ) (position number used : ℕ) (
       perm (length tape) position number (unless_refused number moved perm) used
   made makes = makes_same (onward_whole _ tape position (order ∙ ap in_order long) (kept ∙ long)) (makes perm)
 
-pub returns-in-Refused : goal.returns-in-Refused
-returns-in-Refused c =
-    makes_kept _ (made _ _ _ _ _ _ _ _ c.requires.0 c.set_in_order.ensures c.set_in_order.auto.list c.order-made.ensures)
-    (answer_positive c.in-Refused.is)
+pub returns-in_err-used : goal.returns-in_err-used
+returns-in_err-used c =
+    let refusal = c.in_err-used.field-0.0 in
+    let same : c.from_residual.result ≡ Err refusal = search rules in
+    let all = made _ _ _ _ _ _ _ _ c.requires.0 c.set_in_order.ensures c.set_in_order.auto.list c.in_err-used.ensures in
+    rw same (makes_kept _ all (refusal_positive refusal))
 
 pub returns : goal.returns
 returns c =
-    makes_stored _ (made _ _ _ _ _ _ _ _ c.requires.0 c.set_in_order.ensures c.set_in_order.auto.list c.order-made.ensures)
-    (ap answer_number c.in_default.is) c.copy.ensures
+    makes_stored _ (made _ _ _ _ _ _ _ _ c.requires.0 c.set_in_order.ensures c.set_in_order.auto.list c.in_ok-used.ensures) refl
+    c.copy_from_slice.ensures.after

@@ -1,36 +1,37 @@
 -- `shuffling::shuffle_refusal` meets its contract: each return is the row that its tests pick. Assumes nothing.
-use mathlib.Core.Path.{sym, ap, ◌∙◌}
-use native.Mathlib.Omega.{arith}
+use Rattle.std.proofs.Common.{◌≡◌, sym, ◌∙◌, arith, rules}
 use borrow.Author.Tests.{eq-eqb, ne_eqb, lt-ltb, le-ltb}
-use Rattle.refusals.specs.Numbers.{answer_number, refuse}
-use Rattle.refusals.proofs.Positive.{answer_positive}
+use Rattle.refusals.specs.Numbers.{refuse, answer_number, refusal_number}
+use Rattle.refusals.proofs.Positive.{refusal_positive}
 use Rattle.model.specs.Shuffle.{shuffle_refusal}
-use Rattle.model.proofs.Tests.{bad_geometry_none, bad_geometry_allowed}
 use Rattle.model.proofs.Order.{bad_geometry-first}
+use Rattle.shuffling.proofs.Refusals.{geometry_passed}
 use Rattle.shuffling.proofs.shuffle_refusal.Goals as goal
 
-pub returns-in-Refused : goal.returns-in-Refused
+pub returns-in_err-check_geometry : goal.returns-in_err-check_geometry
 unfolding shuffle_refusal
-returns-in-Refused c =
-    let e = c.check_geometry-bad.ensures in
-    e ∙ sym (bad_geometry-first 1 _ (rw e at (answer_positive c.in-Refused.is)) _)
+returns-in_err-check_geometry c =
+    let told = c.in_err-check_geometry.ensures in
+    let refusal = c.in_err-check_geometry.field-0.0 in
+    let same : answer_number c.from_residual.result ≡ refusal_number refusal = search rules in
+    same ∙ told ∙ sym (bad_geometry-first 1 _ (rw told at (refusal_positive refusal)) _)
 
 pub returns-then-list-g : goal.returns-then-list-g
-unfolding shuffle_refusal refuse
+unfolding refuse
 returns-then-list-g c =
     let a = c.args in
-    sym (bad_geometry_allowed 1 a.g _ (bad_geometry_none 0 _ 0 (sym c.check_geometry-bad.ensures ∙ ap answer_number c.in_default.is)).0 ∙ rw (ne_eqb a.list a.g.p c.if-list-g.true))
+    rw (ne_eqb a.list a.g.p c.if-list-g.true) at (geometry_passed a.g a.list a.tape a.position (sym c.in_ok-check_geometry.ensures))
 
 pub returns-then-tape-position : goal.returns-then-tape-position
-unfolding shuffle_refusal refuse
+unfolding refuse
 returns-then-tape-position c =
     let a = c.args in
-    let long = eq-eqb a.list a.g.p (omega arith) in
-    sym (bad_geometry_allowed 1 a.g _ (bad_geometry_none 0 _ 0 (sym c.check_geometry-bad.ensures ∙ ap answer_number c.in_default.is)).0 ∙ rw (long, lt-ltb a.tape a.position (omega arith)))
+    rw (eq-eqb a.list a.g.p (omega arith), lt-ltb a.tape a.position (omega arith)) at
+    (geometry_passed a.g a.list a.tape a.position (sym c.in_ok-check_geometry.ensures))
 
 pub returns : goal.returns
-unfolding shuffle_refusal refuse
+unfolding refuse
 returns c =
     let a = c.args in
-    let long = eq-eqb a.list a.g.p (omega arith) in
-    sym (bad_geometry_allowed 1 a.g _ (bad_geometry_none 0 _ 0 (sym c.check_geometry-bad.ensures ∙ ap answer_number c.in_default.is)).0 ∙ rw (long, le-ltb a.tape a.position (omega arith)))
+    rw (eq-eqb a.list a.g.p (omega arith), le-ltb a.tape a.position (omega arith)) at
+    (geometry_passed a.g a.list a.tape a.position (sym c.in_ok-check_geometry.ensures))
