@@ -1,25 +1,31 @@
--- What the code's values say of a walk: the lent memory as a state, and what a frame leaves and answers. Assumes nothing.
+-- What the code's values say of a walk: the walk as a state, and what a frame leaves and answers. Assumes nothing.
 use Rattle.std.specs.Prelude.{ℕ, ◌+◌, ◌*◌, ◌/◌, ◌≡◌, List, [], take}
 use Rattle.model.specs.Parts.{choose}
-use Rattle.model.specs.Geometry.{block_start}
-use Rattle.model.specs.Session.{held}
-use Rattle.lines.specs.declared.WalkAnswer.{WalkAnswer}
-use Rattle.lines.specs.declared.WalkAnswer.TheVariants.{Served}
+use Rattle.model.specs.Geometry.{device_length, block_start}
+use Rattle.model.specs.Session.{held, geometry}
+use Rattle.deciding.specs.declared.Decision.{Decision}
+use Rattle.deciding.specs.Decided.{Decided}
+use Rattle.lines.specs.declared.WalkReply.{WalkReply}
+use Rattle.lines.specs.declared.WalkReply.TheVariants.{Served}
 use Rattle.claims.specs.declared.Walk.{Walk}
-use Rattle.claims.specs.State.{State, all_open}
+use Rattle.claims.specs.State.{State, all_open, zeros, endless}
 use Rattle.claims.specs.Claims.{Stepped}
 
--- The state that numbers and lent memory stand for: the tables are the first entries of the memory, and there is a
--- permutation once a frame 02 is accepted. The rest of the memory is not part of the state.
-abbrev pub state_of : Walk → (maps owners perm : List ℕ) → State
-state_of w maps owners perm =
+-- The state that a walk stands for: the tables are the first entries of their arrays, and there is a permutation once a frame 02
+-- is accepted. The rest of the arrays is not part of the state.
+abbrev pub state_of : Walk → State
+state_of w =
     record {
       sized = w.sized;
       shuffled = w.shuffled;
       counted = w.counted;
-      perm = choose w.shuffled (take w.geometry.p perm) [];
-      held = held (take (15 * w.geometry.p) maps) (take w.geometry.p owners) w.position (all_open w.geometry w.start);
+      perm = choose w.shuffled (take w.geometry.p w.perm) [];
+      held = held (take (15 * w.geometry.p) w.maps) (take w.geometry.p w.owners) w.position (all_open w.geometry w.start);
     }
+
+-- What the engine decides of a write of zeros in a state (`engine_write`).
+abbrev pub Decides : State → (i a : ℕ) → Decision → Type 0
+Decides w i a d = Decided (device_length (geometry w.held)) w.held i a (zeros (geometry w.held).b) w.perm endless d
 
 -- What a frame has to leave and to answer.
 pub record Answers (s : Stepped) (state : State) (answer : List ℕ) : Type 0 where
@@ -29,10 +35,20 @@ pub record Answers (s : Stepped) (state : State) (answer : List ℕ) : Type 0 wh
 -- A walk with another tape position and start place.
 abbrev pub moved : Walk → (position start : ℕ) → Walk
 moved w position start =
-    record { geometry = w.geometry; sized = w.sized; shuffled = w.shuffled; counted = w.counted; position = position; start = start }
+    record {
+      geometry = w.geometry;
+      sized = w.sized;
+      shuffled = w.shuffled;
+      counted = w.counted;
+      position = position;
+      start = start;
+      maps = w.maps;
+      owners = w.owners;
+      perm = w.perm;
+    }
 
 -- A served frame 03 at block offset j: the position moves on by what was drawn, the start place by what was looked at (document 02,
 -- P2), and the values are answered.
-pub record Serves (w : Walk) (slice j probes drawn : ℕ) (w' : Walk) (answer : WalkAnswer) : Type 0 where
+pub record Serves (w : Walk) (slice j probes drawn : ℕ) (w' : Walk) (answer : WalkReply) : Type 0 where
   pub left : w' ≡ moved w (w.position + drawn) (w.start + probes)
   pub answered : answer ≡ Served slice (block_start w.geometry slice j / w.geometry.b) probes (w.position + drawn)
