@@ -17,6 +17,7 @@ use refusals::Refusal;
 // ---- geometry
 
 // The refusal where B, S or P is not allowed. B is tested before it divides.
+#[tactic(auto, using(std::proofs::lemmas::Bool::Decides::nat_tests), unfolding(model::specs::Geometry::bad_geometry, refusals::specs::Numbers::refuse))]
 pub fn check_geometry(refusal: Refusal, g: Geometry) -> Result<(), Refusal>
     ensures { answer_number result ≡ bad_geometry (refusal_number refusal) g 0 }
 {
