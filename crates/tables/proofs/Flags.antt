@@ -6,13 +6,14 @@ use Prim.Native.Nat.{ℕ, ◌+◌, ◌≤◌, ◌<◌}
 use native.Mathlib.Numerals.{add-one}
 use native.Mathlib.Omega.{arith}
 use borrow.Author.Tests.{eqb-true, eqb-false}
-use lib.ListN.{length, get_or, set, drop, replicate, length-set, length-replicate, get_or-replicate}
+use lib.ListN.{length, get_or, set, take, drop, replicate, length-set, length-replicate, get_or-replicate}
 use lib.Seq.{drop-cons, get_or-set_same, get_or-set_other}
 use lib.Dec.{eqb}
 use Rattle.model.specs.Parts.{choose}
 use Rattle.model.specs.Permutation.{member, missing}
-use Rattle.tables.specs.Flagged.{flagged, any_zero}
-use Rattle.tables.proofs.Below.{any_below-missing}
+use Rattle.std.specs.List.{list_any}
+use Rattle.tables.specs.Flagged.{flagged}
+use Rattle.tables.proofs.Below.{list_any-below, any_below-missing}
 
 pub flagged_turn : (perm flags : List ℕ) (i : ℕ) → i < length perm
     → flagged (drop i perm) flags ≡ flagged (drop (i + 1) perm) (set flags (get_or perm i 0) 1)
@@ -35,10 +36,16 @@ flagged_zero (ψ ∷ slices) flags n l = flagged_zero slices (set flags ψ 1) n 
     go true e = rw (← eqb-true n ψ e, get_or-set_same flags n 1 0 l) (same (member n slices))
     go false e = rw (get_or-set_other flags ψ n 1 0 (eqb-false n ψ e)) refl
 
-pub flagged-missing : (perm : List ℕ) (m p : ℕ) → p ≤ m → any_zero (flagged perm (replicate m 0)) p ≡ missing p perm
+flagged_length : (slices flags : List ℕ) → length (flagged slices flags) ≡ length flags
+unfolding flagged
+flagged_length [] flags = refl
+flagged_length (ψ ∷ slices) flags = flagged_length slices (set flags ψ 1) ∙ length-set flags ψ 1
+
+pub flagged-missing : (perm : List ℕ) (m p : ℕ) → p ≤ m → list_any (λ y. eqb y 0) (take p (flagged perm (replicate m 0))) ≡ missing p perm
 flagged-missing perm m p h =
-    any_below-missing _ p perm
+    list_any-below (λ y. eqb y 0) (λ i. not (member i perm)) (flagged perm (replicate m 0)) p (simp (flagged_length, length-replicate) h)
     (λ i l. flagged_zero perm (replicate m 0) i (simp length-replicate (omega arith)) ∙ go i (omega arith) (member i perm))
+    ∙ any_below-missing p perm
   where
     go : (i : ℕ) → i < m → (b : Bool) → choose b false (eqb (get_or (replicate m 0) i 0) 0) ≡ not b
     go i l true = refl

@@ -8,7 +8,7 @@ ghost use Rattle.model.specs.Session.{slot, entry, unmapped, placed, bad_entry_a
 ghost use Rattle.model.specs.Permutation.{missing, bad_permutation, place_of};
 ghost use Rattle.model.specs.Opening.{settle, Tables};
 ghost use Rattle.model.specs.Search.{first_free, start_place};
-ghost use Rattle.tables.specs.Flagged.{flagged, any_zero};
+ghost use Rattle.tables.specs.Flagged.{flagged};
 ghost use Rattle.tables.specs.Settled.{Settled};
 
 use model::{Geometry, Search};
@@ -32,11 +32,7 @@ pub fn entry_at(maps: &[u32], g: Geometry, volume: usize, slice: usize) -> usize
 pub fn unmap(maps: &mut [u32])
     ensures { maps.new ≡ replicate (length maps.old) unmapped }
 {
-    let mut i = 0;
-    while i < maps.len() {
-        maps[i] = UNMAPPED as u32;
-        i += 1;
-    }
+    maps.fill(UNMAPPED as u32);
 }
 
 // Whether a slice may stand as the entry of a logical slice, in a volume with a count of them: it is below p, and the logical slice
@@ -45,6 +41,13 @@ fn is_placed(p: usize, count: usize, logical: usize, slice: usize) -> bool
     ensures { result ≡ placed p count logical slice }
 {
     slice < p && logical < count
+}
+
+// Whether an entry is neither the mark nor a slice that may stand there.
+fn is_bad(p: usize, count: usize, logical: usize, entry: usize) -> bool
+    ensures { result ≡ bad_entry_at p count logical entry }
+{
+    entry != UNMAPPED && !is_placed(p, count, logical, entry)
 }
 
 // Whether one of n entries of a volume, from that of a logical slice on, is neither the mark nor a slice that may stand there.
@@ -59,18 +62,7 @@ pub fn any_bad(
     requires { slot g volume first + n ≤ length maps.now }
     ensures { result ≡ any_below (λ e. bad_entry_at g.p count (first + e) (entry maps.now g volume (first + e))) n }
 {
-    let mut e = 0;
-    while e < n {
-        let logical = first + e;
-        let entry = entry_at(maps, g, volume, logical);
-        if entry != UNMAPPED {
-            if !is_placed(g.p, count, logical, entry) {
-                return true;
-            }
-        }
-        e += 1;
-    }
-    false
+    (0..n).any(|e| is_bad(g.p, count, first + e, entry_at(maps, g, volume, first + e)))
 }
 
 // A free slice given to a logical slice of a volume: its entry names the slice, and its owner is the volume.
@@ -116,29 +108,12 @@ pub fn unassign(
 fn flag_named(perm: &[u32], named: &mut [u8])
     ensures { named.new ≡ flagged perm.now named.old }
 {
-    let mut i = 0;
-    while i < perm.len() {
-        let slice = perm[i] as usize;
+    for slice in perm {
+        let slice = *slice as usize;
         if slice < named.len() {
             named[slice] = 1;
         }
-        i += 1;
     }
-}
-
-// Whether one of the flags of the slices below p is 0.
-fn any_zero(flags: &[u8], p: usize) -> bool
-    requires { p ≤ length flags.now }
-    ensures { result ≡ any_zero flags.now p }
-{
-    let mut n = 0;
-    while n < p {
-        if flags[n] == 0 {
-            return true;
-        }
-        n += 1;
-    }
-    false
 }
 
 // Whether a slice below p is not named by the permutation; linear in its length.
@@ -148,18 +123,16 @@ pub fn is_missing(perm: &[u32], p: usize) -> bool
 {
     let mut named = [0u8; 4096];
     flag_named(perm, &mut named);
-    any_zero(&named, p)
+    named[..p].contains(&0)
 }
 
 // 5, of the whole permutation: its length, then whether a slice below p is missing.
+#[tactic(auto, using(std::proofs::lemmas::Bool::Decides::nat_tests), unfolding(refusals::specs::Numbers::refuse))]
 pub fn check_permutation(perm: &[u32], p: usize) -> Result<(), Refusal>
     requires { p ≤ 4096 }
     ensures { answer_number result ≡ bad_permutation p perm.now 0 }
 {
-    if perm.len() != p {
-        return Err(Refusal::BadPermutation);
-    }
-    if is_missing(perm, p) {
+    if perm.len() != p || is_missing(perm, p) {
         return Err(Refusal::BadPermutation);
     }
     Ok(())
@@ -169,33 +142,23 @@ pub fn check_permutation(perm: &[u32], p: usize) -> Result<(), Refusal>
 pub fn place_of(perm: &[u32], slice: usize) -> usize
     ensures { result ≡ place_of slice perm.now }
 {
-    let mut place = 0;
-    while place < perm.len() {
-        if perm[place] as usize == slice {
-            return place;
-        }
-        place += 1;
-    }
-    place
+    perm.iter()
+        .position(|&named| named as usize == slice)
+        .unwrap_or(perm.len())
 }
 
 // The first place of the permutation, from a start on, whose slice is free.
 pub fn first_free(owners: &[u8], perm: &[u32], start: usize) -> Search
     ensures { result ≡ first_free owners.now (length owners.now) start perm.now }
 {
-    let mut place = start;
-    while place < perm.len() {
+    for place in start..perm.len() {
         let slice = perm[place] as usize;
         if owners.len() <= slice {
             return Search::Bad(place);
         }
         if owners[slice] == 0 {
-            return Search::Free {
-                slice: slice,
-                place: place,
-            };
+            return Search::Free { slice, place };
         }
-        place += 1;
     }
     Search::Full
 }
@@ -205,17 +168,9 @@ pub fn start_place(owners: &[u8], perm: &[u32]) -> usize
     ensures { result ≡ start_place (length owners.now)
         (first_free owners.now (length owners.now) 0 perm.now) }
 {
-    let found = first_free(owners, perm, 0);
-    match found {
-        Search::Free { slice: _, place } => {
-            return place;
-        }
-        Search::Bad(_) => {
-            return owners.len();
-        }
-        Search::Full => {
-            return owners.len();
-        }
+    match first_free(owners, perm, 0) {
+        Search::Free { place, .. } => place,
+        Search::Bad(_) | Search::Full => owners.len(),
     }
 }
 

@@ -10,9 +10,6 @@ pub loop-place-init : goal.loop-place-init
 unfolding model.first_free
 loop-place-init c = refl
 
-pub overflow_cast-slice : goal.overflow_cast-slice
-overflow_cast-slice c = omega (arith, c.type_inv.perm c.loop-place.place)
-
 pub returns-then-owners-slice : goal.returns-then-owners-slice
 returns-then-owners-slice c =
     let l = c.loop-place in
