@@ -5,14 +5,13 @@ use mathlib.Core.List.{List}
 use mathlib.Core.Bool.{Bool, true, false, false≢true}
 use native.Mathlib.Numerals.{add-one}
 use native.Mathlib.Omega.{arith}
+use Rattle.std.specs.Prelude.{Option, None, Some}
 use Rattle.gcm_spec.specs.Gcm.{Opened, Text, WrongTag, gcm_tag, gcm_open, same, text_if}
 use Rattle.gcm.specs.Call.{opened_over}
 use Rattle.gcm_spec.proofs.Same.{open_test}
 use Rattle.model.specs.Parts.{part}
 use Rattle.model.specs.Opening.{Cell, At, NoCell, open_cell, or_next, first_cell}
 use Rattle.model.proofs.Parts.{part_lent, part_part}
-use Rattle.sealing.specs.declared.Found.{Found}
-use Rattle.sealing.specs.declared.Found.TheVariants as found
 use Rattle.sealing.specs.Cells.{is_text, CellFound}
 
 -- ---- parts
@@ -41,7 +40,7 @@ module _ (key aad : List ℕ) where
 -- ---- cells
 
 or_next-opens : (o : Opened) (i : ℕ) (rest : Cell) (old vmk : List ℕ) → is_text o ≡ true → vmk ≡ opened_over o old
-    → CellFound (or_next o i rest) (found.At i) vmk
+    → CellFound (or_next o i rest) (Some i) vmk
 or_next-opens (Text text) i rest old vmk t e = (refl, e)
 or_next-opens WrongTag i rest old vmk t e = absurd (false≢true t)
 
@@ -59,7 +58,7 @@ module _ (key : List ℕ) (cell : ℕ → List ℕ) where
       ∙ ap (λ (j : ℕ). or_next (open_cell key i (cell i)) i (first_cell key cell (n - (i + 1)) j)) (sym (add-one i))
 
   pub first_cell_opens : (n i : ℕ) (old vmk : List ℕ) → i < n → is_text (open_cell key i (cell i)) ≡ true
-      → vmk ≡ opened_over (open_cell key i (cell i)) old → CellFound (first_cell key cell (n - i) i) (found.At i) vmk
+      → vmk ≡ opened_over (open_cell key i (cell i)) old → CellFound (first_cell key cell (n - i) i) (Some i) vmk
   first_cell_opens n i old vmk l t e = rw (first_cell_next n i l) (or_next-opens (open_cell key i (cell i)) i _ old vmk t e)
 
   pub first_cell_passes : (n i : ℕ) → i < n → is_text (open_cell key i (cell i)) ≡ false
@@ -72,11 +71,11 @@ module _ (key : List ℕ) (cell : ℕ → List ℕ) where
 
 -- ---- what was found
 
-cell_at : (o : Cell) (r : Found) (vmk : List ℕ) {k : ℕ} → CellFound o r vmk → r ≡ found.At k → o ≡ At k vmk
+cell_at : (o : Cell) (r : Option ℕ) (vmk : List ℕ) {k : ℕ} → CellFound o r vmk → r ≡ Some k → o ≡ At k vmk
 cell_at (At j key) r vmk {k} (e, q) h = let same : j ≡ k = cc in ap₂ At same (sym q)
 cell_at NoCell r vmk e h = absurd (let z : ◌≡◌ {A = ℕ} 0 1 = cc in omega arith)
 
-cell_none : (o : Cell) (r : Found) (vmk : List ℕ) → CellFound o r vmk → r ≡ found.Nothing → o ≡ NoCell
+cell_none : (o : Cell) (r : Option ℕ) (vmk : List ℕ) → CellFound o r vmk → r ≡ None → o ≡ NoCell
 cell_none (At j key) r vmk (e, q) h = absurd (let z : ◌≡◌ {A = ℕ} 0 1 = cc in omega arith)
 cell_none NoCell r vmk e h = refl
 
@@ -92,12 +91,12 @@ module _ (key : List ℕ) (cell : ℕ → List ℕ) where
       by_cell (Text v) q ih = let same : i ≡ k = cc in omega arith
       by_cell WrongTag q ih = omega (arith, ih q)
 
-  module _ (r : Found) (vmk : List ℕ) (n : ℕ) (f : CellFound (first_cell key cell n 0) r vmk) where
-    pub found_at : {k : ℕ} → r ≡ found.At k → first_cell key cell n 0 ≡ At k vmk
+  module _ (r : Option ℕ) (vmk : List ℕ) (n : ℕ) (f : CellFound (first_cell key cell n 0) r vmk) where
+    pub found_at : {k : ℕ} → r ≡ Some k → first_cell key cell n 0 ≡ At k vmk
     found_at h = cell_at (first_cell key cell n 0) r vmk f h
 
-    pub found_below : {k : ℕ} → r ≡ found.At k → k < n
+    pub found_below : {k : ℕ} → r ≡ Some k → k < n
     found_below {k} h = omega (arith, first_cell_below n 0 k vmk (found_at h))
 
-    pub found_none : r ≡ found.Nothing → first_cell key cell n 0 ≡ NoCell
+    pub found_none : r ≡ None → first_cell key cell n 0 ≡ NoCell
     found_none h = cell_none (first_cell key cell n 0) r vmk f h

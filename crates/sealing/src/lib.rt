@@ -11,13 +11,6 @@ ghost use Rattle.model.specs.Opening.{open_cell, first_cell};
 ghost use Rattle.model.specs.Format.{sealed};
 ghost use Rattle.sealing.specs.Cells.{is_text, CellFound};
 
-// The cell that opens.
-#[derive(Clone, Copy)]
-pub enum Found {
-    At(usize),
-    Nothing,
-}
-
 // ---- sealing
 
 // A text sealed under a key with one byte as associated data, over what stood from a place on: IV, ciphertext, tag.
@@ -59,16 +52,14 @@ fn open_cell(device: &[u8], key: &[u8], i: usize, vmk: &mut [u8]) -> bool
 }
 
 // The lowest of the first n cells that opens, with its VMK in vmk.
-pub fn first_cell(device: &[u8], key: &[u8], n: usize, vmk: &mut [u8]) -> Found
+pub fn first_cell(device: &[u8], key: &[u8], n: usize, vmk: &mut [u8]) -> Option<usize>
     requires { (916 ≤ length device.now) × (length key.now ≡ 32) × (n ≤ 15) × (length vmk.old ≡ 32) }
     ensures { CellFound (first_cell key.now (cell_of device.now) n 0) result vmk.new }
 {
-    let mut i = 0;
-    while i < n {
+    for i in 0..n {
         if open_cell(device, key, i, vmk) {
-            return Found::At(i);
+            return Some(i);
         }
-        i += 1;
     }
-    Found::Nothing
+    None
 }
