@@ -1,6 +1,6 @@
 -- Laws of opening headers. Assumes nothing.
 use Prim.Native.Nat.{ℕ, ◌+◌, ◌-◌, ◌*◌, ◌≤◌}
-use mathlib.Core.Path.{◌≡◌, refl, sym, ap, ◌∙◌}
+use mathlib.Core.Path.{◌≡◌, refl, sym, ap, subst, ◌∙◌}
 use mathlib.Core.List.{List, [], ◌∷◌}
 use mathlib.Core.Bool.{Bool, true, false, not, ◌||◌}
 use native.Mathlib.Nat.{mul-le-mul_left}
@@ -37,12 +37,25 @@ pub open_header_test : (vmk header : List ℕ) (i : ℕ) {r t : Bool}
     → open_header vmk i header ≡ text_if t (gcm_text vmk (part 0 12 header) (part 12 72 header))
 open_header_test vmk header i = open_test vmk (part 0 12 header) ((16 + i) ∷ []) (part 12 72 header) (part 84 16 header)
 
-pub open_header_longer : (g : Geometry) → Allowed g → (device vmk : List ℕ) (i : ℕ) → i ≤ 14 → length device ≡ device_length g
+-- A header lies on the device.
+pub header_begins : (g : Geometry) → Allowed g → (device : List ℕ) (i : ℕ) → i ≤ 14 → length device ≡ device_length g
+    → {s : ℕ} → s ≡ header_start g i → s + 100 ≤ length device
+header_begins g ok device i l e q =
+    omega (arith, header_fits g ok i l, b_bounds g ok, mul-le-mul_left {m = 1} {n = 1 + map_blocks g} g.b (omega arith))
+
+open_header_longer : (g : Geometry) → Allowed g → (device vmk : List ℕ) (i : ℕ) → i ≤ 14 → length device ≡ device_length g
     → {s : ℕ} → s ≡ header_start g i → open_header vmk i (take (length device - s) (drop s device)) ≡ open_header vmk i (header_of g device i)
 open_header_longer g ok device vmk i l e q =
     let wide : 100 ≤ g.b * (1 + map_blocks g) = omega (arith, b_bounds g ok, mul-le-mul_left {m = 1} {n = 1 + map_blocks g} g.b (omega arith)) in
     let same_part = part_header g ok device i l e q in
     cc (same_part 0 12 (omega arith), same_part 12 72 (omega arith), same_part 84 16 (omega arith))
+
+-- So a header opens alike where more of the device follows it.
+pub header_opened : (g : Geometry) → Allowed g → (device vmk : List ℕ) (i : ℕ) → i ≤ 14 → length device ≡ device_length g
+    → {s : ℕ} (n : ℕ) (text : List ℕ) → s ≡ header_start g i → HeaderOpened g (open_header vmk i (take (length device - s) (drop s device))) n text
+    → HeaderOpened g (open_header vmk i (header_of g device i)) n text
+header_opened g ok device vmk i l e n text q h =
+    subst (λ (o : Opened). HeaderOpened g o n text) (open_header_longer g ok device vmk i l e q) h
 
 -- The answer to a header's text, by the test of its N, and its S y, which ought to be s.
 module _ (bad : Bool) (y s : ℕ) where

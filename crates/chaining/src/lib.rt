@@ -10,10 +10,10 @@ ghost use Rattle.model.specs.Opening.{open_header, chain};
 ghost use Rattle.chaining.specs.Steps.{HeaderOpened, ChainOpened};
 
 use model::Geometry;
-use refusals::{Answer, Refusal};
+use refusals::Refusal;
 
 // Header i, read from the part of the device that starts at its own block: its 72 bytes into text, or 7; then 8.
-fn open_header(header: &[u8], g: Geometry, i: usize, vmk: &[u8], text: &mut [u8]) -> Answer
+fn open_header(header: &[u8], g: Geometry, i: usize, vmk: &[u8], text: &mut [u8]) -> Result<(), Refusal>
     requires { (100 ≤ length header.now) × (i < 15) × (length vmk.now ≡ 32) × (length text.old ≡ 72) }
     ensures { HeaderOpened g (open_header vmk.now i header.now) (answer_number result) text.new }
 {
@@ -27,14 +27,14 @@ fn open_header(header: &[u8], g: Geometry, i: usize, vmk: &[u8], text: &mut [u8]
         text,
     ) {
         if places::is_bad_count(g.p, places::number_at(text, 64)) {
-            return Answer::Refused(Refusal::HeaderGeometry);
+            return Err(Refusal::HeaderGeometry);
         }
         if places::number_at(text, 68) != g.s {
-            return Answer::Refused(Refusal::HeaderGeometry);
+            return Err(Refusal::HeaderGeometry);
         }
-        return Answer::Served;
+        return Ok(());
     }
-    Answer::Refused(Refusal::HeaderTag)
+    Err(Refusal::HeaderTag)
 }
 
 // The headers k down to 0: the data keys into keys and the counts into counts, or 7 or 8. vmk holds the VMK of volume k at first.
@@ -45,25 +45,19 @@ pub fn open_chain(
     vmk: &mut [u8],
     keys: &mut [u8],
     counts: &mut [usize],
-) -> Answer
+) -> Result<(), Refusal>
     requires { Allowed g × (length device.now ≡ device_length g) × (k ≤ 14) × (length vmk.old ≡ 32) × (keys.old ≡ no_keys)
         × (counts.old ≡ no_counts) }
     ensures { ChainOpened (chain g (header_of g device.now) k vmk.old [] []) k (answer_number result) keys.new
         counts.new }
 {
     let mut text = [0u8; 72];
-    let mut n = k + 1;
-    while 0 < n {
-        let i = n - 1;
+    for i in (0..k + 1).rev() {
         let start = places::header_start(g, i);
-        let bad = open_header(&device[start..], g, i, vmk, &mut text);
-        if let Answer::Refused(_) = bad {
-            return bad;
-        }
+        open_header(&device[start..], g, i, vmk, &mut text)?;
         places::store(keys, 32 * i, &text[0..32]);
         counts[i] = places::number_at(&text, 64);
-        block::copy(vmk, &text[32..64]);
-        n = i;
+        vmk.copy_from_slice(&text[32..64]);
     }
-    Answer::Served
+    Ok(())
 }
