@@ -1,12 +1,11 @@
 -- What a frame leads to, by the tests that the code makes. Assumes nothing.
-use Prim.Native.Nat.{ℕ, suc, ◌+◌, ◌-◌, ◌*◌, ◌≤◌, ◌<◌}
-use mathlib.Core.Path.{◌≡◌, refl}
-use mathlib.Core.Bool.{true, false, not, ◌&&◌}
+use Prim.Native.Nat.{ℕ, ◌+◌, ◌*◌, ◌≤◌, ◌<◌}
+use mathlib.Core.Path.{◌≡◌, refl, ap}
+use mathlib.Core.Bool.{true, false, ◌&&◌}
 use mathlib.Core.List.{List, [], ◌∷◌}
 use native.Mathlib.Omega.{arith}
-use borrow.Author.Tests.{lt-ltb, le-ltb, le-leb, lt-leb, eq-eqb, ne_eqb, not-false}
-use lib.ListN.{length, get_or, take, drop, replicate}
-use lib.Seq.{take_all}
+use borrow.Author.Tests.{lt-ltb, le-ltb, le-leb, lt-leb, eq-eqb, ne_eqb}
+use lib.ListN.{length, get_or, replicate}
 use Rattle.refusals.specs.declared.Refusal.{Refusal}
 use Rattle.refusals.specs.Numbers.{refuse, refusal_number}
 use Rattle.refusals.proofs.Positive.{refusal_positive}
@@ -58,10 +57,10 @@ module _ (w : State) (fields : List ℕ) where
       unfolding on_size refuse
       on_size_accepted h e = rw (read, six, first, le-ltb 256 (size_of fields).p (rw read at h), rw read at e)
 
--- The state of memory that is cleared, long enough for the geometry.
+-- The state of a walk whose tables are cleared, which have room for the geometry.
 pub state_of_empty : (g : Geometry) (counted : ℕ) (maps owners perm : List ℕ) (m n : ℕ) → maps ≡ replicate m unmapped → owners ≡ replicate n 0
     → 15 * g.p ≤ m → g.p ≤ n
-    → state_of (record { geometry = g; sized = true; shuffled = false; counted = counted; position = 0; start = 0 }) maps owners perm
+    → state_of (record { geometry = g; sized = true; shuffled = false; counted = counted; position = 0; start = 0; maps = maps; owners = owners; perm = perm })
     ≡ record { sized = true; shuffled = false; counted = counted; perm = []; held = empty g }
 state_of_empty g counted maps owners perm m n e f l k = rw (e, f, take-replicate (15 * g.p) m unmapped l, take-replicate g.p n 0 k)
 
@@ -76,11 +75,11 @@ module _ (w : State) (fields : List ℕ) where
   on_order_again s = rw s
 
   module _ (first : w.shuffled ≡ false) where
-    pub on_order_early : not w.sized ≡ true → on_order w fields ≡ refused_by w 20
+    pub on_order_early : w.sized ≡ false → on_order w fields ≡ refused_by w 20
     unfolding on_order refuse
     on_order_early s = rw (first, s)
 
-    module _ (sized : not w.sized ≡ false) where
+    module _ (sized : w.sized ≡ true) where
       pub on_order_wrong_length : (length fields ≡ 2 * slices → ⊥) → on_order w fields ≡ refused_by w 5
       unfolding on_order refuse
       on_order_wrong_length h = rw (first, sized, ne_eqb (length fields) (2 * slices) h)
@@ -93,13 +92,43 @@ module _ (w : State) (fields : List ℕ) where
         pub on_order_accepted : missing slices (pairs fields) ≡ false
             → on_order w fields ≡ accepted (record { sized = true; shuffled = true; counted = w.counted; perm = pairs fields; held = w.held })
         unfolding on_order refuse
-        on_order_accepted h = rw (first, not-false w.sized sized, eq-eqb (length fields) (2 * slices) long, h)
+        on_order_accepted h = rw (first, sized, eq-eqb (length fields) (2 * slices) long, h)
 
--- Before a frame 02 is accepted, what the memory for the permutation holds does not matter.
-pub state_of_unshuffled : (w : Walk) (maps owners perm perm' : List ℕ) → w.shuffled ≡ false → state_of w maps owners perm ≡ state_of w maps owners perm'
-state_of_unshuffled w maps owners perm perm' e = rw e
+-- A walk with another permutation.
+abbrev pub ordered : Walk → (perm : List ℕ) → Walk
+ordered w perm =
+    record {
+      geometry = w.geometry;
+      sized = w.sized;
+      shuffled = w.shuffled;
+      counted = w.counted;
+      position = w.position;
+      start = w.start;
+      maps = w.maps;
+      owners = w.owners;
+      perm = perm;
+    }
+
+-- Before a frame 02 is accepted, what stands in the permutation does not matter.
+pub state_of_unshuffled : (w : Walk) (perm : List ℕ) → w.shuffled ≡ false → state_of w ≡ state_of (ordered w perm)
+state_of_unshuffled w perm e = rw e
 
 -- ---- frame 03
+
+-- A walk with one frame 03 more.
+abbrev pub counted_once : Walk → Walk
+counted_once w =
+    record {
+      geometry = w.geometry;
+      sized = w.sized;
+      shuffled = w.shuffled;
+      counted = w.counted + 1;
+      position = w.position;
+      start = w.start;
+      maps = w.maps;
+      owners = w.owners;
+      perm = w.perm;
+    }
 
 module _ (w : State) (fields : List ℕ) where
   pub on_claim_length : (length fields ≡ 5 → ⊥) → on_claim w fields ≡ refused_by w 14
@@ -122,23 +151,13 @@ module _ (w : State) (fields : List ℕ) where
 
 -- ---- any frame
 
-module _ (w : State) (bytes : List ℕ) where
-  pub on_frame_empty : length bytes ≡ 0 → on_frame w (Bytes bytes) ≡ refused_by w 14
+module _ (w : State) where
+  pub on_frame_empty : (bytes : List ℕ) → length bytes ≡ 0 → on_frame w (Bytes bytes) ≡ refused_by w 14
   unfolding on_frame
-  on_frame_empty e = go bytes e
-    where
-      go : (bytes : List ℕ) → length bytes ≡ 0 → on_frame w (Bytes bytes) ≡ refused_by w 14
-      go [] e = refl
-      go (kind ∷ fields) e = absurd (omega arith)
+  on_frame_empty [] e = refl
+  on_frame_empty (kind ∷ fields) e = absurd (omega arith)
 
-  -- The fields of a frame are lent as the part behind its kind.
-  pub on_frame_kind : (length bytes ≡ 0 → ⊥) → length bytes ≤ 513
-      → on_frame w (Bytes bytes) ≡ on_kind w (get_or bytes 0 0) (take (length bytes - 1) (drop 1 bytes))
+  pub on_frame_kind : {bytes : List ℕ} (kind : ℕ) (fields : List ℕ) → bytes ≡ kind ∷ fields → length bytes ≤ 513
+      → on_frame w (Bytes bytes) ≡ on_kind w kind fields
   unfolding on_frame
-  on_frame_kind n l = go bytes n l
-    where
-      go : (bytes : List ℕ) → (length bytes ≡ 0 → ⊥) → length bytes ≤ 513
-          → on_frame w (Bytes bytes) ≡ on_kind w (get_or bytes 0 0) (take (length bytes - 1) (drop 1 bytes))
-      go [] n l = absurd (n refl)
-      go (kind ∷ fields) n l =
-          rw (le-ltb 513 (1 + length fields) (omega arith), take_all (suc (length fields) - 1) fields (omega arith)) refl
+  on_frame_kind kind fields e l = rw (e, le-ltb 513 (1 + length fields) (omega (arith, ap length e))) refl

@@ -4,5 +4,4 @@ use Rattle.frames.proofs.Pairs.{number_pair}
 use Rattle.frames.proofs.pair_at.Goals as goal
 
 pub returns : goal.returns
-returns c =
-    (rw (c.wide.ensures.0, c.wide-2.ensures.0) (number_pair c.args.s.now c.args.at c.requires), omega arith)
+returns c = omega (arith, c.from_be_bytes.ensures, number_pair c.args.s.now c.args.at c.requires)

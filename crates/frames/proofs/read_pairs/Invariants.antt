@@ -1,14 +1,10 @@
 -- `frames::read_pairs` meets its contract. The numbers begin with those of the i pairs of bytes passed. Assumes nothing.
-use Prim.Native.Nat.{◌-◌, ◌*◌, ◌≤◌}
+use Prim.Native.Nat.{◌*◌}
 use mathlib.Core.Path.{◌≡◌}
 use mathlib.Core.List.{◌++◌}
-use lib.ListN.{length, take, drop}
+use lib.ListN.{take, drop}
 use Rattle.frames.specs.Frames.{pairs}
 use Rattle.frames.proofs.read_pairs.Given as goal
 
 abbrev pub invariant-loop-i : goal.invariant-loop-i
-invariant-loop-i l =
-    (l.i ≤ length l.initial.numbers) × (length l.numbers ≡ length l.initial.numbers) × (pairs l.bytes ≡ take l.i l.numbers ++ pairs (drop (2 * l.i) l.bytes))
-
-abbrev pub decreases-loop-i : goal.decreases-loop-i
-decreases-loop-i l = length l.initial.numbers - l.i
+invariant-loop-i l = pairs l.bytes ≡ take l.i l.numbers ++ pairs (drop (2 * l.i) l.bytes)
