@@ -6,7 +6,6 @@
 #![tactic(auto)]
 
 ghost use Rattle.std.specs.Prelude.{◌≡◌, ◌+◌, ◌*◌, ◌≤◌, ◌<◌, length};
-ghost use Rattle.refusals.specs.Numbers.{answer_number, unless_refused};
 ghost use Rattle.model.specs.Parts.{part, overlay, patched};
 ghost use Rattle.model.specs.Geometry.{Allowed, device_length, cell_start, header_start, map_start};
 ghost use Rattle.model.specs.Format.{drawn_vmk, drawn_vek, cell_iv, header_iv_at, format_need, made_cell, made_below, made_text, made_header, made_map};
@@ -15,7 +14,6 @@ ghost use Rattle.model.specs.Conditions.{Counted};
 ghost use Rattle.making.specs.Drawn.{Drawn, Makes};
 
 use model::Geometry;
-use refusals::Answer;
 
 // ---- what is drawn
 
@@ -78,10 +76,8 @@ pub fn seal_cells(device: &mut [u8], g: Geometry, n: usize, keys: &[u8], drawn: 
     requires { Makes g n (length keys.now) (length drawn.now) × (916 ≤ length device.old) }
     ensures { device.new ≡ patched (cell_patches g n keys.now drawn.now n) device.old }
 {
-    let mut i = 0;
-    while i < n {
+    for i in 0..n {
         seal_cell(device, g, n, keys, drawn, i);
-        i += 1;
     }
 }
 
@@ -97,7 +93,7 @@ fn key_below(drawn: &[u8], g: Geometry, n: usize, i: usize) -> [u8; 32]
         return below;
     }
     let j = i - 1;
-    places::store(&mut below, 0, vmk_in(drawn, g, n, j));
+    below.copy_from_slice(vmk_in(drawn, g, n, j));
     below
 }
 
@@ -146,17 +142,15 @@ fn seal_headers(device: &mut [u8], g: Geometry, n: usize, counts: &[usize], draw
         × (length device.old ≡ device_length g) }
     ensures { device.new ≡ patched (header_patches g n counts.now drawn.now n) device.old }
 {
-    let mut i = 0;
-    while i < n {
+    for i in 0..n {
         seal_header(device, g, n, counts, drawn, i);
         store_map(device, g, n, drawn, i);
-        i += 1;
     }
 }
 
 // ---- all of it
 
-// A formatting is carried out, with the tape bytes that it needs drawn; where it is refused nothing is done.
+// A formatting is carried out, with the tape bytes that it needs drawn.
 pub fn carry_out(
     device: &mut [u8],
     g: Geometry,
@@ -164,19 +158,11 @@ pub fn carry_out(
     keys: &[u8],
     counts: &[usize],
     drawn: &[u8],
-    answer: Answer,
-) -> Answer
-    requires { answer_number answer ≡ 0 → Makes g n (length keys.now) (length drawn.now) × Counted g.p n counts.now
-        × (length device.old ≡ device_length g) }
-    ensures { (result ≡ answer) × (device.new ≡ unless_refused (answer_number answer)
-        (formatted g n keys.now counts.now drawn.now) device.old) }
+)
+    requires { Makes g n (length keys.now) (length drawn.now) × Counted g.p n counts.now × (length device.old ≡ device_length g) }
+    ensures { device.new ≡ formatted g n keys.now counts.now drawn.now }
 {
-    if let Answer::Refused(_) = answer {
-        return answer;
-    }
-    let noise = bytes_at(drawn, 0, device.len());
-    block::copy(device, noise);
+    device.copy_from_slice(bytes_at(drawn, 0, device.len()));
     seal_cells(device, g, n, keys, drawn);
     seal_headers(device, g, n, counts, drawn);
-    Answer::Served
 }

@@ -1,36 +1,13 @@
 -- `making::cell_iv` meets its contract. Assumes nothing.
-use mathlib.Core.Path.{ap, ◌∙◌}
-use Prim.Native.Nat.{ℕ, ◌+◌, ◌*◌, ◌^◌, ◌≤◌, ◌<◌}
 use native.Mathlib.Omega.{arith}
-use Rattle.model.specs.Parts.{part}
 use Rattle.making.proofs.Draws.{cell_iv_end, drawn_small}
 use Rattle.making.proofs.cell_iv.Goals as goal
 
-pub overflow_mul-n : goal.overflow_mul-n
-overflow_mul-n c =
-    let small : ((c.device_length.result < 2 ^ 63) × (c.args.i < 15) × (c.args.n ≤ 15)) = let d = drawn_small c.requires in (omega (arith, c.device_length.ensures, d), d.1, d.2) in
-    omega (arith, small)
-
 pub overflow_add-device_length : goal.overflow_add-device_length
-overflow_add-device_length c =
-    let small : ((c.device_length.result < 2 ^ 63) × (c.args.i < 15) × (c.args.n ≤ 15)) = let d = drawn_small c.requires in (omega (arith, c.device_length.ensures, d), d.1, d.2) in
-    omega (arith, small)
-
-pub overflow_mul-i : goal.overflow_mul-i
-overflow_mul-i c =
-    let small : ((c.device_length.result < 2 ^ 63) × (c.args.i < 15) × (c.args.n ≤ 15)) = let d = drawn_small c.requires in (omega (arith, c.device_length.ensures, d), d.1, d.2) in
-    omega (arith, small)
+overflow_add-device_length c = omega (arith, drawn_small c.requires)
 
 pub overflow_add-device_length-2 : goal.overflow_add-device_length-2
-overflow_add-device_length-2 c =
-    let small : ((c.device_length.result < 2 ^ 63) × (c.args.i < 15) × (c.args.n ≤ 15)) = let d = drawn_small c.requires in (omega (arith, c.device_length.ensures, d), d.1, d.2) in
-    omega (arith, small)
+overflow_add-device_length-2 c = omega (arith, drawn_small c.requires)
 
 pub bytes_at-requires : goal.bytes_at-requires
-bytes_at-requires c = omega (arith, c.device_length.ensures, cell_iv_end c.requires)
-
-pub returns : goal.returns
-returns c =
-    let o = c.bytes_at.ensures in
-    let a = c.args in
-    (o.0 ∙ ap (λ (l : ℕ). part (l + 64 * a.n + 12 * a.i) 12 a.drawn.now) c.device_length.ensures, o.1)
+bytes_at-requires c = omega (arith, cell_iv_end c.requires)
