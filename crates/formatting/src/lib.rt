@@ -11,11 +11,9 @@ ghost use Rattle.model.specs.Geometry.{Allowed, cell_of};
 ghost use Rattle.model.specs.Format.{format_need, made_cell, lower_opens, format_refusal, lower_refusal, format_model};
 ghost use Rattle.model.specs.Answers.{LentLeaves};
 ghost use Rattle.making.specs.Drawn.{Makes};
-ghost use Rattle.formatting.specs.Needed.{needed};
 
 use model::{Geometry, TapePosition};
-use refusals::{Answer, Refusal};
-use sealing::Found;
+use refusals::Refusal;
 
 // ---- refusals
 
@@ -33,14 +31,12 @@ fn any_lower(cells: &[u8], keys: &[u8], n: usize) -> bool
     ensures { result ≡ lower_opens keys.now (cell_of cells.now) n }
 {
     let mut vmk = [0u8; 32];
-    let mut i = 0;
-    while i < n {
+    for i in 0..n {
         let key = places::key_in(keys, i);
         let found = sealing::first_cell(cells, key, i, &mut vmk);
-        if let Found::At(_) = found {
+        if found.is_some() {
             return true;
         }
-        i += 1;
     }
     false
 }
@@ -64,35 +60,32 @@ fn lengths_refusal(
     counts: &[usize],
     tape: usize,
     position: usize,
-) -> Answer
+) -> Result<(), Refusal>
     ensures { answer_number result ≡ format_refusal device g n keys counts.now tape position 0 }
 {
-    let bad = places::check_geometry(Refusal::BadGeometry, g);
-    if let Answer::Refused(_) = bad {
-        return bad;
-    }
+    places::check_geometry(Refusal::BadGeometry, g)?;
     if counts.len() != n {
-        return Answer::Refused(Refusal::BadGeometry);
+        return Err(Refusal::BadGeometry);
     }
     if places::any_bad_count(counts, g.p, n) {
-        return Answer::Refused(Refusal::BadGeometry);
+        return Err(Refusal::BadGeometry);
     }
     if device != places::device_length(g) {
-        return Answer::Refused(Refusal::DeviceLength);
+        return Err(Refusal::DeviceLength);
     }
     if n < 1 {
-        return Answer::Refused(Refusal::KeyCount);
+        return Err(Refusal::KeyCount);
     }
     if 15 < n {
-        return Answer::Refused(Refusal::KeyCount);
+        return Err(Refusal::KeyCount);
     }
     if keys != 32 * n {
-        return Answer::Refused(Refusal::KeyLength);
+        return Err(Refusal::KeyLength);
     }
     if tape::is_short(tape, position, tape_need(g, n)) {
-        return Answer::Refused(Refusal::TapeShort);
+        return Err(Refusal::TapeShort);
     }
-    Answer::Served
+    Ok(())
 }
 
 // All refusals of a formatting.
@@ -104,33 +97,19 @@ fn format_refusal(
     counts: &[usize],
     tape: &[u8],
     position: usize,
-) -> Answer
+) -> Result<(), Refusal>
     ensures { answer_number result ≡ format_refusal device g n (length keys.now) counts.now (length tape.now) position
         (lower_refusal g n keys.now (part position (format_need g n) tape.now)) }
 {
-    let bad = lengths_refusal(device, g, n, keys.len(), counts, tape.len(), position);
-    if let Answer::Refused(_) = bad {
-        return bad;
-    }
+    lengths_refusal(device, g, n, keys.len(), counts, tape.len(), position)?;
     let drawn = making::bytes_at(tape, position, tape_need(g, n));
     if lower_opens(g, n, keys, drawn) {
-        return Answer::Refused(Refusal::LowerCell);
+        return Err(Refusal::LowerCell);
     }
-    Answer::Served
+    Ok(())
 }
 
 // ---- the call
-
-// The tape bytes that a formatting draws: none where it is refused.
-fn format_need(answer: Answer, g: Geometry, n: usize) -> usize
-    requires { answer_number answer ≡ 0 → Allowed g × (n ≤ 15) }
-    ensures { result ≡ needed answer g n }
-{
-    if let Answer::Refused(_) = answer {
-        return 0;
-    }
-    tape_need(g, n)
-}
 
 // Formatting with a number of volumes: their keys, which stand end to end, and a count of logical slices for each (document 02, P4), the
 // tape position lent as a record: one draw for all.
@@ -142,12 +121,13 @@ pub fn format(
     counts: &[usize],
     tape: &[u8],
     position: &mut TapePosition,
-) -> Answer
+) -> Result<(), Refusal>
     ensures { LentLeaves (format_model (length device.old) g volumes keys.now counts.now tape.now
         position.old.at) device.old position.old.at (answer_number result) device.new
         position.new.at }
 {
-    let answer = format_refusal(device.len(), g, volumes, keys, counts, tape, position.at);
-    let drawn = tape::draw(tape, position, format_need(answer, g, volumes));
-    making::carry_out(device, g, volumes, keys, counts, drawn, answer)
+    format_refusal(device.len(), g, volumes, keys, counts, tape, position.at)?;
+    let drawn = tape::draw(tape, position, tape_need(g, volumes));
+    making::carry_out(device, g, volumes, keys, counts, drawn);
+    Ok(())
 }

@@ -1,21 +1,32 @@
 -- `formatting::format` meets its contract: what its refusals, its draw and its carrying out come to is the model's formatting
 -- (`Carries.antt`). Assumes nothing.
-use Rattle.formatting.proofs.Carries.{format_need_asks, carry_out_asks, format_ensures}
+use mathlib.Core.Path.{◌≡◌}
+use borrow.Author.Rules.{rules}
+use Rattle.refusals.specs.Numbers.{refusal_number, answer_number}
+use Rattle.formatting.proofs.Carries.{need_asks, carry_out_asks, format_served, format_refused}
 use Rattle.formatting.proofs.format.Goals as goal
 
-pub format_need-requires : goal.format_need-requires
-format_need-requires c =
+pub returns-in_err-format_refusal : goal.returns-in_err-format_refusal
+returns-in_err-format_refusal c =
     let a = c.args in
-    format_need_asks a.device.now a.g a.volumes a.keys.now a.counts.now a.tape.now a.position.now.at _ c.format_refusal-answer.ensures
+    let r = c.in_err-format_refusal.field-0.0 in
+    let same : answer_number c.from_residual.result ≡ refusal_number r = search rules in
+    rw same
+    (format_refused a.device.now a.g a.volumes a.keys.now a.counts.now a.tape.now a.position.now.at r c.in_err-format_refusal.ensures)
+
+pub tape_need-requires : goal.tape_need-requires
+tape_need-requires c =
+    let a = c.args in
+    need_asks a.device.now a.g a.volumes a.keys.now a.counts.now a.tape.now a.position.now.at c.in_ok-format_refusal.ensures
 
 pub carry_out-requires : goal.carry_out-requires
 carry_out-requires c =
     let a = c.args in
-    carry_out_asks a.device.now a.g a.volumes a.keys.now a.counts.now a.tape.now a.position.now.at _ c.format_refusal-answer.ensures _
-    c.format_need.ensures _ c.draw-drawn.new.position.at c.draw-drawn.ensures
+    carry_out_asks a.device.now a.g a.volumes a.keys.now a.counts.now a.tape.now a.position.now.at c.in_ok-format_refusal.ensures _
+    c.tape_need.ensures _ c.draw-drawn.new.position.at c.draw-drawn.ensures
 
 pub returns : goal.returns
 returns c =
     let a = c.args in
-    format_ensures a.device.now a.g a.volumes a.keys.now a.counts.now a.tape.now a.position.now.at _ c.format_refusal-answer.ensures _
-    c.format_need.ensures _ c.draw-drawn.new.position.at c.draw-drawn.ensures c.carry_out.result _ c.carry_out.ensures
+    format_served a.device.now a.g a.volumes a.keys.now a.counts.now a.tape.now a.position.now.at c.in_ok-format_refusal.ensures _
+    c.tape_need.ensures _ c.draw-drawn.new.position.at c.draw-drawn.ensures _ c.carry_out.ensures

@@ -1,6 +1,6 @@
 -- `formatting::tape_need` meets its contract. Assumes nothing.
 use mathlib.Core.Path.{ap₂}
-use Prim.Native.Nat.{ℕ, ◌+◌, ◌*◌, ◌≤◌}
+use Prim.Native.Nat.{ℕ, ◌+◌, ◌*◌}
 use native.Mathlib.Omega.{arith}
 use Rattle.model.specs.Format.{format_need}
 use Rattle.model.proofs.Bounds.{map_blocks_small, device_length_small}
@@ -8,26 +8,19 @@ use Rattle.formatting.proofs.Counts.{volumes_small}
 use Rattle.formatting.proofs.tape_need.Goals as goal
 
 pub overflow_mul-result : goal.overflow_mul-result
-overflow_mul-result c =
-    let few : c.map_blocks.result ≤ 17 = omega (arith, c.map_blocks.ensures, map_blocks_small c.args.g c.requires.0) in
-    omega (arith, few)
+overflow_mul-result c = omega (arith, map_blocks_small c.args.g c.requires.0)
 
 pub overflow_add-result : goal.overflow_add-result
-overflow_add-result c =
-    let few : c.map_blocks.result ≤ 17 = omega (arith, c.map_blocks.ensures, map_blocks_small c.args.g c.requires.0) in
-    omega (arith, few)
+overflow_add-result c = omega (arith, map_blocks_small c.args.g c.requires.0)
 
 pub overflow_mul-result-2 : goal.overflow_mul-result-2
 overflow_mul-result-2 c =
-    let few : c.map_blocks.result ≤ 17 = omega (arith, c.map_blocks.ensures, map_blocks_small c.args.g c.requires.0) in
-    let small : c.args.n * (88 + 16 * c.map_blocks.result) ≤ 15 * 360 = volumes_small c.args.n c.map_blocks.result c.requires.1 few in
-    omega (arith, small)
+    omega (arith, volumes_small c.args.g c.args.n c.map_blocks.result c.requires.0 c.requires.1 c.map_blocks.ensures)
 
 pub overflow_add-result-2 : goal.overflow_add-result-2
 overflow_add-result-2 c =
-    let few : c.map_blocks.result ≤ 17 = omega (arith, c.map_blocks.ensures, map_blocks_small c.args.g c.requires.0) in
-    let small : c.args.n * (88 + 16 * c.map_blocks.result) ≤ 15 * 360 = volumes_small c.args.n c.map_blocks.result c.requires.1 few in
-    omega (arith, small, c.device_length.ensures, device_length_small c.args.g c.requires.0)
+    let a = c.args in
+    omega (arith, volumes_small a.g a.n c.map_blocks.result c.requires.0 c.requires.1 c.map_blocks.ensures, device_length_small a.g c.requires.0)
 
 pub returns : goal.returns
 unfolding format_need
