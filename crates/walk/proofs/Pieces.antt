@@ -2,26 +2,41 @@
 use Prim.Native.Nat.{ℕ, suc, ◌+◌, ◌≤◌, ◌<◌}
 use mathlib.Core.Path.{◌≡◌, refl, sym, ap, ◌∙◌}
 use mathlib.Core.Bool.{Bool, true, false}
-use mathlib.Core.List.{List, [], ◌∷◌, ◌++◌, append_assoc, append-nil}
-use native.Mathlib.Numerals.{add-one}
+use mathlib.Core.List.{List, [], ◌∷◌, ◌++◌, append-nil}
 use native.Mathlib.Omega.{arith}
-use borrow.Author.Tests.{lt-ltb, le-ltb, eq-eqb, ne_eqb}
-use lib.Dec.{eqb}
-use lib.ListN.{length, get_or, set, take, drop, length-append, length-take, take-append-drop}
-use lib.Seq.{drop-cons, take-suc, take-suc-set, take_all, take-take, take-append-le, length-take-le}
+use borrow.Author.Tests.{lt-ltb, le-ltb}
+use lib.Dec.{eqb, ltb}
+use lib.ListN.{length, take}
+use lib.Seq.{take_all, take-append-add, take_at, length-take-le}
+use mathlib.Core.Bool.{cond}
+use mathlib.Core.Logic.{⊎_elim}
+use Prim.Native.Nat.{◌-◌}
+use Rattle.std.specs.List.{position, position_or_len}
+use Rattle.std.specs.Prelude.{Some, None}
+use Rattle.std.specs.Option.{unwrap_or}
+use Rattle.std.proofs.lemmas.Bool.{cases_lt}
+use Rattle.std.proofs.lemmas.List.Sums.{prefix_len-le-length}
+use Rattle.std.proofs.lemmas.List.Recursion.{is_position_or_len}
 use Rattle.model.specs.Parts.{choose}
+use Rattle.model.proofs.Tests.{below}
 use Rattle.walk.specs.Lines.{step, output_line, last_line, outputs, line_length, Reader, kept, ended, goes_on, feed, finish}
 
 -- ---- the length of a line
 
-module _ (piece : List ℕ) (i : ℕ) (inside : i < length piece) where
-  pub line_length_end : get_or piece i 0 ≡ 10 → line_length (drop i piece) ≡ 0
-  unfolding line_length
-  line_length_end e = rw (drop-cons piece i 0, eq-eqb (get_or piece i 0) 10 e) refl
+counted_step : (b : Bool) (n : ℕ) → choose b 0 (n + 1) ≡ cond b 0 (1 + n)
+counted_step true n = refl
+counted_step false n = omega arith
 
-  pub line_length_turn : (get_or piece i 0 ≡ 10 → ⊥) → line_length (drop i piece) ≡ line_length (drop (i + 1) piece) + 1
-  unfolding line_length
-  line_length_turn other = rw (add-one i, drop-cons piece i 0, ne_eqb (get_or piece i 0) 10 other) refl
+line_length_first : (piece : List ℕ) → line_length piece ≡ position_or_len (λ c. eqb c 10) piece
+unfolding line_length
+line_length_first piece = is_position_or_len line_length (λ c. eqb c 10) refl (λ c piece. counted_step (eqb c 10) (line_length piece)) piece
+
+-- The length of a line, as std finds its end.
+pub line_length_found : (piece : List ℕ) → unwrap_or (position (λ c. eqb c 10) piece) (length piece) ≡ line_length piece
+line_length_found piece = rw (line_length_first piece) (or_len (position_or_len (λ c. eqb c 10) piece) (length piece) (prefix_len-le-length _ piece))
+  where
+    or_len : (n len : ℕ) → n ≤ len → unwrap_or (cond (ltb n len) (Some n) None) len ≡ n
+    or_len n len l = ⊎_elim (λ less. rw (lt-ltb n len less) refl) (λ past. rw (le-ltb n len past) (omega arith)) (cases_lt n len)
 
 pub line_length_le : (piece : List ℕ) → line_length piece ≤ length piece
 unfolding line_length
@@ -54,34 +69,23 @@ finish_line r l = go r.line l
     go [] h = absurd (omega arith)
     go (c ∷ line) h = append-nil _
 
--- ---- what is kept of a line: n bytes at most
+-- ---- what is kept of a line: 1,027 bytes at most
 
-module _ (n : ℕ) (line more : List ℕ) (used : ℕ) where
-  -- Nothing more yet, of a line that is kept whole and of one that is cut.
-  pub kept_whole : used ≤ n → n ≤ length line → take used line ≡ take n (take used line ++ take 0 more)
-  kept_whole l room = rw (append-nil (take used line)) (sym (take_all n (take used line) (omega (arith, length-take-le used line (omega arith)))))
+-- A part from the start is no longer than the list.
+pub take_least : (s : List ℕ) (k m : ℕ) → m ≤ k → (m < k → length s ≤ m) → take k s ≡ take m s
+take_least s k m l h =
+    ⊎_elim (λ (x : m < k). take_all k s (omega (arith, h x)) ∙ sym (take_all m s (h x))) (λ (x : k ≤ m). ap (λ (j : ℕ). take j s) (omega arith))
+    (below m k)
 
-  pub kept_cut : n ≤ used → take n line ≡ take n (take used line ++ take 0 more)
-  kept_cut l = rw (append-nil (take used line)) (sym (take-take n used line l))
-
-module _ (n : ℕ) (line begun more : List ℕ) (i : ℕ) (room : length line ≡ n) where
-  -- One more byte, where there is room.
-  pub kept_turn : (at : ℕ) → at < n → i < length more → take at line ≡ take n (begun ++ take i more)
-      → take (at + 1) (set line at (get_or more i 0)) ≡ take n (begun ++ take (i + 1) more)
-  kept_turn at l inside e =
-      let b = get_or more i 0 in
-      let xs = begun ++ take i more in
-      let long : length (take n xs) ≡ at = ap length (sym e) ∙ length-take-le at line (omega arith) in
-      let short : length xs < n = omega (arith, length-take n xs) in
-      rw (add-one at, add-one i, take-suc more i 0, ← append_assoc)
-      (take-suc-set line at b (omega arith)
-      ∙ ap (λ (l : List ℕ). l ++ (b ∷ [])) (e ∙ take_all n xs (omega arith))
-      ∙ sym (take_all n (xs ++ (b ∷ [])) (rw (length-append xs (b ∷ [])) (omega arith))))
-
-  -- A full line stays as it is.
-  pub kept_full : take n line ≡ take n (begun ++ take i more) → take n line ≡ take n (begun ++ more)
-  kept_full e =
-      let xs = begun ++ take i more in
-      let long : length (take n xs) ≡ n = ap length (sym e) ∙ length-take-le n line (omega arith) in
-      let whole : xs ++ drop i more ≡ begun ++ more = rw (append_assoc, take-append-drop) refl in
-      e ∙ sym (take-append-le n xs (drop i more) (omega (arith, length-take n xs))) ∙ ap (take n) whole
+-- Of u bytes that are kept and n more, as many as there is room for.
+pub kept_more : (line more rest : List ℕ) (used u n : ℕ) → length line ≡ 1027 → take used line ≡ take u line → u ≤ 1027
+    → n ≤ length more → take (1027 - u) more ≡ take n more
+    → take (u + n) (take u line ++ (take n more ++ rest)) ≡ take 1027 (take used line ++ more)
+kept_more line more rest used u n long same room inside all =
+    let begun = take u line in
+    let lu : length begun ≡ u = length-take-le u line (omega arith) in
+    let sum : length begun + (1027 - u) ≡ 1027 = omega (arith, lu) in
+    rw same
+    (rw lu at (take-append-add begun (take n more ++ rest) n)
+    ∙ ap (λ (l : List ℕ). begun ++ l) (take_at (take n more) rest n (length-take-le n more inside) ∙ sym all)
+    ∙ sym (rw sum at (take-append-add begun more (1027 - u))))

@@ -1,14 +1,13 @@
 // The lines of the program slicewalk (document 01, "The walk program"): recorded claims, and where the engine puts them.
 //
-// `feed` and `finish` are what the program calls: input in pieces of any size, one output line at a time. `step` is one
+// `LineReader::feed` and `finish` are what the program calls: input in pieces of any size, one output line at a time. `step` is one
 // line. All take any arguments. What a frame leaves and answers is left to `frames`, its digits and those of the answer to
 // `lines`.
 //
-// The numbers of a walk go in and out as a small record; the tables are lent, since 15 × 256 map entries by value would be
-// copied at every line. Arrays of fixed length are lent, so that no call has to test them.
+// A walk is lent, since its tables by value would be copied at every line.
 #![tactic(auto)]
 
-ghost use Rattle.std.specs.Prelude.{◌≡◌, List, ℕ, ◌≤◌, length, take};
+ghost use Rattle.std.specs.Prelude.{◌≡◌, ◌≤◌, length, take};
 ghost use Rattle.lines.specs.Answers.{answer_bytes, Writes};
 ghost use Rattle.claims.specs.State.{start as start·state};
 ghost use Rattle.claims.specs.Answers.{state_of, Answers};
@@ -16,9 +15,8 @@ ghost use Rattle.walk.specs.Lines.{step as step·of, output_line, line_length, k
 ghost use Rattle.walk.specs.Answers.{reader_of, Feeds};
 ghost use Rattle.walk.specs.Theorems.{WalkLaws};
 
-use claims::{Answered, Walk};
-use frames::{MAP_ENTRIES, MOST_SLICES};
-use lines::{Decoded, OUTPUT_BYTES};
+use claims::{MAP_ENTRIES, MOST_SLICES, Walk};
+use lines::{OUTPUT_BYTES, WalkReply};
 use model::Geometry;
 use refusals::Refusal;
 
@@ -33,9 +31,9 @@ pub const LINE_BYTES: usize = LINE_DIGITS + 1;
 
 // ---- the calls
 
-// Before the first line; the lent memory may hold anything.
+// Before the first line.
 pub fn start() -> Walk
-    ensures { (maps owners perm : List ℕ) → state_of result maps owners perm ≡ start·state }
+    ensures { state_of result ≡ start·state }
 {
     Walk {
         geometry: Geometry { b: 0, s: 0, p: 0 },
@@ -44,110 +42,80 @@ pub fn start() -> Walk
         counted: 0,
         position: 0,
         start: 0,
+        maps: [0u32; MAP_ENTRIES],
+        owners: [0u8; MOST_SLICES],
+        perm: [0u32; MOST_SLICES],
     }
 }
 
-// What a line leaves, and the length of its output line.
-#[derive(Clone, Copy)]
-pub struct Printed {
-    pub walk: Walk,
-    pub length: usize,
-}
-
-// One line without its byte 0a; the output line, with its own, is put at the start of the output.
-pub fn step(
-    walk: Walk,
-    maps: &mut [u32; MAP_ENTRIES],
-    owners: &mut [u8; MOST_SLICES],
-    perm: &mut [u32; MOST_SLICES],
-    line: &[u8],
-    out: &mut [u8; OUTPUT_BYTES],
-) -> Printed
-    ensures left { state_of result.walk maps.new owners.new perm.new
-        ≡ (step·of (state_of walk maps.old owners.old perm.old) line.now).state }
-    ensures printed { Writes (output_line (step·of (state_of walk maps.old owners.old perm.old)
-        line.now)) out.old out.new result.length }
+// One line without its byte 0a; the output line, with its own, is put at the start of the output. Answers its length.
+pub fn step(walk: &mut Walk, line: &[u8], out: &mut [u8; OUTPUT_BYTES]) -> usize
+    ensures left { state_of walk.new ≡ (step·of (state_of walk.old) line.now).state }
+    ensures printed { Writes (output_line (step·of (state_of walk.old) line.now)) out.old out.new result }
 {
-    let mut frame = [0u8; FRAME_BYTES];
-    let answered = answer(walk, maps, owners, perm, line, &mut frame);
-    let next = answered.walk;
-    let said = answered.answer;
-    let length = lines::print(said, out);
-    Printed {
-        walk: next,
-        length: length,
-    }
+    let said = answer(walk, line);
+    lines::print(said, out)
 }
 
-// What a piece of input leaves: the walk, how much is kept of the unfinished line, how much of the piece was taken, and the
-// length of the output line, 0 where the line goes on.
+// What was done with a piece of input: how much of it was taken, and the length of the output line, 0 where the line goes on.
 #[derive(Clone, Copy)]
 pub struct Fed {
-    pub walk: Walk,
-    pub used: usize,
     pub taken: usize,
     pub length: usize,
 }
 
-// A piece of input up to the end of its first line, or its own end.
-pub fn feed(
-    walk: Walk,
-    maps: &mut [u32; MAP_ENTRIES],
-    owners: &mut [u8; MOST_SLICES],
-    perm: &mut [u32; MOST_SLICES],
-    line: &mut [u8; LINE_BYTES],
-    used: usize,
-    piece: &[u8],
-    out: &mut [u8; OUTPUT_BYTES],
-) -> Fed
-    ensures { Feeds (feed·of (reader_of walk maps.old owners.old perm.old line.old used)
-        piece.now)
-        (reader_of result.walk maps.new owners.new perm.new line.new result.used) result.taken
-        out.old out.new result.length }
-{
-    let n = line_length(piece);
-    let kept = keep(line, used, &piece[..n]);
-    if n == piece.len() {
-        return Fed {
-            walk: walk,
-            used: kept,
-            taken: n,
-            length: 0,
-        };
-    }
-    let taken = n + 1;
-    let printed = step_on(walk, maps, owners, perm, line, kept, out);
-    let next = printed.walk;
-    Fed {
-        walk: next,
-        used: 0,
-        taken: taken,
-        length: printed.length,
-    }
+// A walk, and what is kept of its unfinished line, at the start of an array.
+#[derive(Drop)]
+pub struct LineReader {
+    pub walk: Walk,
+    pub line: [u8; LINE_BYTES],
+    pub used: usize,
 }
 
-// The end of the input: the output line of a last line without byte 0a, if there is one.
-pub fn finish(
-    walk: Walk,
-    maps: &mut [u32; MAP_ENTRIES],
-    owners: &mut [u8; MOST_SLICES],
-    perm: &mut [u32; MOST_SLICES],
-    line: &[u8; LINE_BYTES],
-    used: usize,
-    out: &mut [u8; OUTPUT_BYTES],
-) -> usize
-    ensures { Writes (finish·of (reader_of walk maps.old owners.old perm.old line.now used))
-        out.old out.new result }
-{
-    if used == 0 {
-        return 0;
+impl LineReader {
+    // A piece of input up to the end of its first line, or its own end.
+    pub fn feed(&mut self, piece: &[u8], out: &mut [u8; OUTPUT_BYTES]) -> Fed
+        ensures { Feeds (feed·of (reader_of self.old) piece.now) (reader_of self.new) result.taken out.old out.new result.length }
+    {
+        let n = line_length(piece);
+        self.keep(&piece[..n]);
+        if n == piece.len() {
+            return Fed {
+                taken: n,
+                length: 0,
+            };
+        }
+        let taken = n + 1;
+        let length = step(&mut self.walk, &self.line[..self.used], out);
+        self.used = 0;
+        Fed {
+            taken: taken,
+            length: length,
+        }
     }
-    let mut kept = used;
-    if LINE_BYTES < kept {
-        kept = LINE_BYTES;
+
+    // The end of the input: the output line of a last line without byte 0a, if there is one.
+    pub fn finish(&mut self, out: &mut [u8; OUTPUT_BYTES]) -> usize
+        ensures { Writes (finish·of (reader_of self.old)) out.old out.new result }
+    {
+        if self.used == 0 {
+            return 0;
+        }
+        let kept = self.used.min(LINE_BYTES);
+        step(&mut self.walk, &self.line[..kept], out)
     }
-    let printed = step_on(walk, maps, owners, perm, line, kept, out);
-    printed.length
+
+    // More of a line behind what is kept of it, as far as 1,027 bytes go.
+    fn keep(&mut self, more: &[u8])
+        ensures line { take self.new.used self.new.line ≡ kept (take self.old.used self.old.line) more.now }
+        ensures bound { self.new.used ≤ 1027 }
+        ensures walk { self.new.walk ≡ self.old.walk }
+    {
+        let used = self.used.min(LINE_BYTES);
+        let n = more.len().min(LINE_BYTES - used);
+        self.line[used..used + n].copy_from_slice(&more[..n]);
+        self.used = used + n;
+    }
 }
 
 // The laws of the definitions: nothing runs, and the check has to prove them.
@@ -155,84 +123,28 @@ pub fn walk_laws()
     ensures { WalkLaws }
 {}
 
-// ---- pieces of input
+// ---- one line
 
 // The bytes before the first 0a.
 fn line_length(piece: &[u8]) -> usize
     ensures { result ≡ line_length piece.now }
 {
-    let mut i = 0;
-    while i < piece.len() {
-        if piece[i] == 10 {
-            return i;
-        }
-        i += 1;
-    }
-    i
+    piece
+        .iter()
+        .position(|&c| c == b'\n')
+        .unwrap_or(piece.len())
 }
 
-// More of a line behind what is kept of it, as far as 1,027 bytes go; answers how many are kept.
-fn keep(line: &mut [u8], used: usize, more: &[u8]) -> usize
-    requires { length line.old ≡ 1027 }
-    ensures { (take result line.new ≡ kept (take used line.old) more.now) × (result ≤ 1027) }
-{
-    let mut at = used;
-    if LINE_BYTES < at {
-        at = LINE_BYTES;
-    }
-    let mut i = 0;
-    while i < more.len() {
-        if at == LINE_BYTES {
-            return at;
-        }
-        line[at] = more[i];
-        at += 1;
-        i += 1;
-    }
-    at
-}
-
-// The line of so many bytes at the start of a buffer.
-fn step_on(
-    walk: Walk,
-    maps: &mut [u32; MAP_ENTRIES],
-    owners: &mut [u8; MOST_SLICES],
-    perm: &mut [u32; MOST_SLICES],
-    line: &[u8],
-    used: usize,
-    out: &mut [u8; OUTPUT_BYTES],
-) -> Printed
-    requires { used ≤ length line.now }
-    ensures left { state_of result.walk maps.new owners.new perm.new
-        ≡ (step·of (state_of walk maps.old owners.old perm.old) (take used line.now)).state }
-    ensures printed { Writes (output_line (step·of (state_of walk maps.old owners.old perm.old)
-        (take used line.now))) out.old out.new result.length }
-{
-    step(walk, maps, owners, perm, &line[..used], out)
-}
-
-// ---- one line
-
-// The answer to a line, whose frame is decoded into lent memory. A line of more than 1,026 digits is malformed whatever it
-// holds.
-fn answer(
-    walk: Walk,
-    maps: &mut [u32; MAP_ENTRIES],
-    owners: &mut [u8; MOST_SLICES],
-    perm: &mut [u32; MOST_SLICES],
-    line: &[u8],
-    frame: &mut [u8],
-) -> Answered
-    requires { length frame.old ≡ 513 }
-    ensures { Answers (step·of (state_of walk maps.old owners.old perm.old) line.now)
-        (state_of result.walk maps.new owners.new perm.new) (answer_bytes result.answer) }
+// The answer to a line. A line of more than 1,026 digits is malformed whatever it holds.
+fn answer(walk: &mut Walk, line: &[u8]) -> Result<WalkReply, Refusal>
+    ensures { Answers (step·of (state_of walk.old) line.now) (state_of walk.new) (answer_bytes result) }
 {
     if LINE_DIGITS < line.len() {
-        return claims::refuse(walk, Refusal::MalformedLine);
+        return Err(Refusal::MalformedLine);
     }
-    let decoded = lines::decode(line, frame);
-    match decoded {
-        Decoded::Neither => claims::refuse(walk, Refusal::MalformedLine),
-        Decoded::Bytes(n) => frames::on_frame(walk, maps, owners, perm, &frame[..n]),
+    let mut frame = [0u8; FRAME_BYTES];
+    match lines::decode(line, &mut frame) {
+        Some(n) => frames::on_frame(walk, &frame[..n]),
+        None => Err(Refusal::MalformedLine),
     }
 }

@@ -1,25 +1,20 @@
--- `walk::line_length` meets its contract. The i bytes passed are before the first 0a. Assumes nothing.
-use mathlib.Core.Path.{ap}
-use native.Mathlib.Omega.{arith}
+-- `walk::line_length` meets its contract. Assumes nothing.
+use Prim.Native.Nat.{ℕ}
+use mathlib.Core.Path.{◌≡◌, ap, ◌∙◌}
 use borrow.Author.Rules.{rules}
-use lib.ListN.{drop_of_length-le}
-use Rattle.walk.specs.Lines.{line_length}
-use Rattle.walk.proofs.Pieces.{line_length_end, line_length_turn}
+use lib.Dec.{eqb}
+use lib.ListN.{length}
+use Rattle.std.specs.Prelude.{Option}
+use Rattle.std.specs.Option.{unwrap_or}
+use Rattle.std.specs.List.{position}
+use Rattle.std.proofs.lemmas.Iterator.{YieldsList-from_slice}
+use Rattle.std.proofs.lemmas.Iterator.Search.{position_from_yields_List}
+use Rattle.walk.proofs.Pieces.{line_length_found}
 use Rattle.walk.proofs.line_length.Goals as goal
 
-pub loop-i-init : goal.loop-i-init
-loop-i-init c = (search rules, omega arith)
-
-pub returns-then-piece-i-eq10 : goal.returns-then-piece-i-eq10
-returns-then-piece-i-eq10 c =
-    let piece = c.args.piece.now in
-    omega (arith, line_length_end piece c.loop-i.i c.loop-i-test.true c.if-piece-i-eq10.true)
-
-pub loop-i-preserved : goal.loop-i-preserved
-loop-i-preserved c =
-    let piece = c.args.piece.now in
-    omega (arith, line_length_turn piece c.loop-i.i c.loop-i-test.true c.if-piece-i-eq10.false)
-
 pub returns : goal.returns
-unfolding line_length
-returns c = omega (arith, ap line_length (drop_of_length-le c.args.piece.now {i = c.loop-i.i} (omega arith)))
+returns c =
+    let piece = c.args.piece.now in
+    let found : c.position.result ≡ position (λ x. eqb x 10) piece =
+    position_from_yields_List (λ x. eqb x 10) _ _ _ c.position.ensures.ran (YieldsList-from_slice piece (search rules)) (λ x b q k. search rules) in
+    c.unwrap_or.ensures ∙ ap (λ (o : Option ℕ). unwrap_or o (length piece)) found ∙ line_length_found piece
