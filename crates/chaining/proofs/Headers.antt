@@ -13,8 +13,8 @@ use Rattle.gcm.specs.Call.{opened_over}
 use Rattle.gcm_spec.proofs.Same.{open_test}
 use Rattle.model.specs.declared.Geometry.{Geometry}
 use Rattle.model.specs.Parts.{choose, part}
-use Rattle.model.specs.Geometry.{Allowed, map_blocks, device_length, header_start, header_of}
-use Rattle.model.specs.Opening.{open_header, bad_header, Chain, Broken, link}
+use Rattle.model.specs.Geometry.{Allowed, map_blocks, device_length, header_start, header_of, bad_count, number_at}
+use Rattle.model.specs.Opening.{open_header, slice_count, bad_header, Chain, Broken, link}
 use Rattle.model.proofs.Parts.{part_part}
 use Rattle.model.proofs.Bounds.{b_bounds, header_fits}
 use Rattle.chaining.specs.Steps.{HeaderOpened}
@@ -57,27 +57,28 @@ pub header_opened : (g : Geometry) → Allowed g → (device vmk : List ℕ) (i 
 header_opened g ok device vmk i l e n text q h =
     subst (λ (o : Opened). HeaderOpened g o n text) (open_header_longer g ok device vmk i l e q) h
 
--- The answer to a header's text, by the test of its N, and its S y, which ought to be s.
-module _ (bad : Bool) (y s : ℕ) where
-  abbrev header_number : ℕ
-  header_number = choose (bad || not (eqb y s)) 8 0
-
-  pub count_bad : bad ≡ true → 8 ≡ header_number
-  count_bad e = sym (rw e)
-
-  pub blocks_differ : bad ≡ false → (y ≡ s → ⊥) → 8 ≡ header_number
-  blocks_differ e h = sym (rw (e, ne_eqb y s h))
-
-  pub none_bad : bad ≡ false → y ≡ s → 0 ≡ header_number
-  none_bad e q = sym (rw (e, eq-eqb y s q))
-
 module _ (g : Geometry) where
-  -- A header that opened, by its N and S.
-  pub header_text : {o : Opened} {t text : List ℕ} (old : List ℕ) (n : ℕ) → o ≡ Text t → text ≡ opened_over o old
-      → n ≡ choose (bad_header g text) 8 0 → HeaderOpened g o n text
-  header_text {o} {t} {text} old n e q h =
-      let same_text : text ≡ t = q ∙ ap (λ (x : Opened). opened_over x old) e in
-      rw e (same_text, h ∙ ap (λ (x : List ℕ). choose (bad_header g x) 8 0) same_text)
+  -- A header that opened, by the tests of its N and its S.
+  module _ (vmk header old text : List ℕ) (i : ℕ) {r : Bool}
+      (right : r ≡ same (gcm_tag vmk (part 0 12 header) ((16 + i) ∷ []) (part 12 72 header)) (part 84 16 header)) (opens : r ≡ true)
+      (output : text ≡ opened_over (open_header vmk i header) old) {bad : Bool} {n : ℕ} (counted : n ≡ slice_count text)
+      (tested : bad ≡ bad_count g.p n) where
+    answered : (m : ℕ) → m ≡ choose (bad || not (eqb (number_at 68 text) g.s)) 8 0 → HeaderOpened g (open_header vmk i header) m text
+    answered m h =
+        let e : open_header vmk i header ≡ Text (gcm_text vmk (part 0 12 header) (part 12 72 header)) = open_header_test vmk header i right opens in
+        let same_text = output ∙ ap (λ (o : Opened). opened_over o old) e in
+        let test : bad ≡ bad_count g.p (slice_count text) = tested ∙ ap (bad_count g.p) counted in
+        rw e (same_text, h ∙ ap (λ (b : Bool). choose (b || not (eqb (number_at 68 text) g.s)) 8 0) test
+        ∙ ap (λ (x : List ℕ). choose (bad_header g x) 8 0) same_text)
+
+    pub count_bad : bad ≡ true → HeaderOpened g (open_header vmk i header) 8 text
+    count_bad e = answered 8 (sym (rw e))
+
+    pub blocks_differ : bad ≡ false → {s : ℕ} → s ≡ number_at 68 text → (s ≡ g.s → ⊥) → HeaderOpened g (open_header vmk i header) 8 text
+    blocks_differ e q h = answered 8 (sym (rw (e, ← q, ne_eqb _ g.s h)))
+
+    pub none_bad : bad ≡ false → {s : ℕ} → s ≡ number_at 68 text → s ≡ g.s → HeaderOpened g (open_header vmk i header) 0 text
+    none_bad e q h = answered 0 (sym (rw (e, ← q, eq-eqb _ g.s h)))
 
   pub header_wrong : {o : Opened} (text : List ℕ) → o ≡ WrongTag → HeaderOpened g o 7 text
   header_wrong text e = rw e refl
