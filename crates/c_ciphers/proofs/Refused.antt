@@ -1,17 +1,18 @@
 -- The refusals of counter mode from any byte. Assumes nothing.
-use mathlib.Core.Path.{◌≡◌, ap}
-use Prim.Native.Nat.{ℕ, suc, ◌<◌, ◌≤◌}
+use mathlib.Core.Path.{◌≡◌}
+use Prim.Native.Nat.{ℕ, zero, suc, ◌<◌, ◌≤◌}
+use native.Mathlib.Omega.{arith}
 use borrow.Author.Tests.{lt-ltb, le-ltb}
-use lib.Dec.{ltb}
 use Rattle.refusals.specs.Numbers.{refuse}
 use Rattle.ctr.specs.Call.{ctr_refusal}
-use Rattle.c_ciphers.specs.From.{or_else, from_refusal}
+use Rattle.c_ciphers.specs.From.{from_refusal}
 
 module _ (k v t o p : ℕ) where
   -- A refusal of counter mode comes first.
-  pub from_refused : {n : ℕ} → suc n ≡ ctr_refusal k v t o → suc n ≡ from_refusal k v t o p
+  pub from_refused : {n : ℕ} → n ≡ ctr_refusal k v t o → 0 < n → n ≡ from_refusal k v t o p
   unfolding from_refusal
-  from_refused e = ap (λ (m : ℕ). or_else m (refuse (ltb 1099511627776 p) 13 0)) e
+  from_refused {n = zero} e l = absurd (omega arith)
+  from_refused {n = suc n} e l = rw (← e)
 
   pub from_far : 0 ≡ ctr_refusal k v t o → 1099511627776 < p → 13 ≡ from_refusal k v t o p
   unfolding from_refusal refuse

@@ -5,12 +5,14 @@
 #![tactic(auto)]
 
 ghost use Rattle.std.specs.Prelude.{◌≡◌, length};
-ghost use Rattle.refusals.specs.Numbers.{unless_refused};
+ghost use Rattle.refusals.specs.Numbers.{answer_number, unless_refused};
 ghost use Rattle.ctr_spec.specs.CounterMode.{ctr, ctr_from};
 ghost use Rattle.ctr.specs.Call.{ctr_refusal};
 ghost use Rattle.gcm_spec.specs.Gcm.{gcm_text, gcm_tag};
 ghost use Rattle.gcm.specs.Call.{seal_refusal, open_refusal};
 ghost use Rattle.c_ciphers.specs.From.{from_refusal};
+
+use refusals::Refusal;
 
 // Counter mode: key 32 bytes, IV 16, text 0 to 4,096, output as long as the text. Refusals 3, 13.
 #[unsafe(no_mangle)]
@@ -20,6 +22,27 @@ pub extern "C" fn hiwalgam_counter_mode(key: &[u8], iv: &[u8], text: &[u8], out:
     ensures output { out.new ≡ unless_refused result (ctr key.now iv.now text.now) out.old }
 {
     refusals::answer_number(ctr::counter_mode(key, iv, text, out))
+}
+
+// Counter mode of a text that begins at byte `position` of a longer one, or refusal 3 or 13, by which the output stays as it was.
+fn keystream_at(
+    key: &[u8],
+    iv: &[u8],
+    position: usize,
+    text: &[u8],
+    out: &mut [u8],
+) -> Result<(), Refusal>
+    ensures answer { answer_number result ≡ from_refusal (length key.now) (length iv.now) (length text.now)
+        (length out.old) position }
+    ensures output { out.new ≡ unless_refused (answer_number result) (ctr_from key.now iv.now position text.now)
+        out.old }
+{
+    ctr::check_lengths(key.len(), iv.len(), text.len(), out.len())?;
+    if position > 1_099_511_627_776 {
+        return Err(Refusal::WrongLength);
+    }
+    ctr::ctr_from_into(key, iv, position, text, out);
+    Ok(())
 }
 
 // Counter mode of a text that begins at byte `position` of a longer one: lengths as above, position at most 2^40.
@@ -37,23 +60,7 @@ pub extern "C" fn hiwalgam_keystream_at(
     ensures output { out.new ≡ unless_refused result (ctr_from key.now iv.now position text.now)
         out.old }
 {
-    if key.len() != 32 {
-        return 3;
-    }
-    if iv.len() != 16 {
-        return 13;
-    }
-    if text.len() > 4096 {
-        return 13;
-    }
-    if out.len() != text.len() {
-        return 13;
-    }
-    if position > 1_099_511_627_776 {
-        return 13;
-    }
-    ctr::ctr_from_into(key, iv, position, text, out);
-    0
+    refusals::answer_number(keystream_at(key, iv, position, text, out))
 }
 
 // GCM sealing: key 32 bytes, IV 12, associated data 0 to 16, text 0 to 256, output as long as the text, tag 16.
