@@ -11,17 +11,17 @@ ghost use Rattle.model.specs.Release.{ReleaseResult};
 ghost use Rattle.model.specs.Answers.{release_result, Leaves};
 ghost use Rattle.freeing.specs.Carried.{needed, carried, Ready};
 
-use model::{ReleaseAnswer, Released, Session};
-use refusals::Answer;
+use model::{Released, Session};
+use refusals::Refusal;
 
 // The tape bytes that a release draws: none where it is refused.
-pub fn need(answer: Answer) -> usize
+pub fn need(answer: Result<(), Refusal>) -> usize
     ensures { result ≡ needed answer }
 {
-    if let Answer::Refused(_) = answer {
-        return 0;
+    match answer {
+        Ok(()) => 16,
+        Err(_) => 0,
     }
-    16
 }
 
 // A release is carried out, with the tape bytes that it needs drawn; where it is refused nothing is done. The map block is made once the
@@ -32,7 +32,7 @@ pub fn carry_out(
     owners: &mut [u8],
     perm: &[u32],
     drawn: &[u8],
-    answer: Answer,
+    answer: Result<(), Refusal>,
     session: Session,
     volume: usize,
     logical: usize,
@@ -43,22 +43,21 @@ pub fn carry_out(
         device.old (release_result result.answer) device.new maps.new owners.new (needed answer)
         result.session }
 {
-    if let Answer::Refused(r) = answer {
+    if let Err(refusal) = answer {
         return Released {
-            answer: ReleaseAnswer::Refused(r),
-            session: session,
+            answer: Err(refusal),
+            session,
         };
     }
     let g = session.geometry;
     let slice = tables::entry_at(maps, g, volume, logical);
     let place = tables::place_of(perm, slice);
-    let first = requests::lower(session.start, place);
+    let first = session.start.min(place);
     tables::unassign(maps, owners, g, volume, logical, slice);
-    let keys = session.keys;
-    let key = places::key_in(&keys, volume);
+    let key = places::key_in(&session.keys, volume);
     mapping::store_block_of(device, maps, g, key, drawn, volume, logical);
     Released {
-        answer: ReleaseAnswer::Freed(slice),
+        answer: Ok(slice),
         session: requests::starting_at(session, first),
     }
 }

@@ -7,8 +7,8 @@ use mathlib.Core.List.{List}
 use native.Mathlib.Nat.{add-zero}
 use lib.Dec.{lit≤}
 use lib.ListN.{length}
-use Rattle.refusals.specs.declared.Answer.{Answer}
-use Rattle.refusals.specs.declared.Answer.TheVariants.{Served, Refused}
+use Rattle.std.specs.Prelude.{Result, Ok, Err}
+use Rattle.refusals.specs.declared.Refusal.{Refusal}
 use Rattle.refusals.specs.Numbers.{answer_number}
 use Rattle.refusals.proofs.Positive.{refusal_positive}
 use Rattle.model.specs.declared.Session.{Session}
@@ -31,17 +31,17 @@ module _ (device maps owners perm tape : List ℕ) (at : ℕ) (s : Session) (i �
   enough : refusal ≡ 0 → at + 16 ≤ length tape
   enough e = (release_refusal_none (length device) (held maps owners at s) i σ perm (length tape) e).enough
 
-  ready : (a : Answer) → answer_number a ≡ refusal → Ready a (length device) maps owners s i σ perm (length (drawn tape at (needed a)))
-  ready Served e = record { position = at; tape = length tape; none = sym e; drawn_all = drawn_length tape at 16 (enough (sym e)) }
-  ready (Refused r) e = tt
+  ready : (a : Result Unit Refusal) → answer_number a ≡ refusal → Ready a (length device) maps owners s i σ perm (length (drawn tape at (needed a)))
+  ready (Ok u) e = record { position = at; tape = length tape; none = sym e; drawn_all = drawn_length tape at 16 (enough (sym e)) }
+  ready (Err r) e = tt
 
   module _ (result : ReleaseResult) (device' maps' owners' : List ℕ) (s' : Session) where
-    leaves : (a : Answer) → answer_number a ≡ refusal
+    leaves : (a : Result Unit Refusal) → answer_number a ≡ refusal
         → Leaves ReleaseResult (carried a (held maps owners 0 s) i σ perm (drawn tape at (needed a))) device result device' maps' owners' (needed a) s'
         → Leaves ReleaseResult (release_model (length device) (held maps owners at s) i σ perm tape) device result device' maps' owners'
         (past tape at (needed a)) s'
     unfolding release_model
-    leaves Served e l =
+    leaves (Ok u) e l =
         let h = enough (sym e) in
         let bytes : part 0 16 (drawn tape at 16) ≡ part at 16 tape =
         ap (part 0 16) (drawn_enough tape at 16 h) ∙ part_part tape at 16 0 16 (lit≤ tt) ∙ ap (λ (n : ℕ). part n 16 tape) (add-zero at) in
@@ -54,11 +54,11 @@ module _ (device maps owners perm tape : List ℕ) (at : ℕ) (s : Session) (i �
           moved = past_enough tape at 16 h;
           handed = l.handed;
         })
-    leaves (Refused r) e l =
+    leaves (Err r) e l =
         rw (← e, unless_refused_lem _ _ _ (refusal_positive r))
         (record { answered = l.answered; stored = l.stored; mapped = l.mapped; owned = l.owned; moved = past_none tape at; handed = l.handed })
 
-  module _ (a : Answer) (refusals : answer_number a ≡ refusal) (n : ℕ) (need : n ≡ needed a) (bytes : List ℕ) (at' : ℕ)
+  module _ (a : Result Unit Refusal) (refusals : answer_number a ≡ refusal) (n : ℕ) (need : n ≡ needed a) (bytes : List ℕ) (at' : ℕ)
       (draw : (bytes ≡ drawn tape at n) × (at' ≡ past tape at n)) where
     bytes_are : bytes ≡ drawn tape at (needed a)
     bytes_are = draw.0 ∙ ap (drawn tape at) need
