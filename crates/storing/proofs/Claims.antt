@@ -1,17 +1,18 @@
 -- Laws of a slice that is claimed: what each data block holds, and its place; and what a claim stores. Assumes nothing.
 use Prim.Native.Nat.{ℕ, ◌+◌, ◌-◌, ◌*◌, ◌≤◌, ◌<◌}
-use mathlib.Core.Path.{◌≡◌, refl, sym, ap, ap₂, ◌∙◌}
+use mathlib.Core.Path.{◌≡◌, refl}
 use mathlib.Core.List.{List}
 use native.Mathlib.Nat.{zero-add}
 use native.Mathlib.Omega.{arith}
-use lib.ListN.{replicate}
+use lib.ListN.{length, replicate, take, drop, length-drop}
+use lib.Seq.{take-length}
 use borrow.Author.Tests.{eq-eqb, ne_eqb}
 use Rattle.ctr_spec.specs.CounterMode.{ctr}
 use Rattle.model.specs.declared.Geometry.{Geometry}
 use Rattle.model.specs.Parts.{part, overlay}
 use Rattle.model.specs.Geometry.{Allowed, device_length, map_block_start, slice_start, block_start}
 use Rattle.model.specs.Maps.{map_block}
-use Rattle.model.specs.Write.{claimed_bytes}
+use Rattle.model.specs.Write.{claimed_bytes, claim_need}
 use Rattle.model.proofs.Parts.{part_lent}
 use Rattle.model.proofs.Bounds.{block_fits}
 use Rattle.model.proofs.Blocks.{claimed_block}
@@ -30,20 +31,16 @@ pub claimed_block_fits : (g : Geometry) → Allowed g → (ψ n : ℕ) → ψ < 
 unfolding block_start
 claimed_block_fits g ok ψ n l h = omega (arith, block_fits g ok ψ n l h)
 
--- The first n bytes, as they are lent.
-pub first_lent : (s : List ℕ) (n : ℕ) → part 0 (n - 0) s ≡ part 0 n s
-first_lent s n = let e : n - 0 ≡ n = omega arith in rw e
-
--- The slice under the IVs drawn first, and the map block under the IV drawn last, as they are lent, are what a claim stores from bytes
--- that are drawn just as many as needed.
-pub claimed_stored : (device stored entered table drawn lent key : List ℕ) (g : Geometry) (at i t j : ℕ) (text : List ℕ) → lent ≡ key
-    → stored ≡ overlay device at (claimed_bytes g.b g.s lent (part 0 (g.b - 0) drawn) j text)
-    → entered ≡ overlay stored (map_block_start g i t) (map_block table g lent i t (part g.b (g.b + 16 - g.b) drawn))
+-- The slice under the IVs drawn first, and the map block under the IV drawn last, are what a claim stores from bytes that are drawn just as
+-- many as needed.
+pub claimed_stored : (device stored entered table drawn ivs iv lent key : List ℕ) (g : Geometry) (at i t j : ℕ) (text : List ℕ)
+    → length drawn ≡ claim_need g → lent ≡ key → ivs ≡ take g.b drawn → iv ≡ drop g.b drawn
+    → stored ≡ overlay device at (claimed_bytes g.b g.s lent ivs j text)
+    → entered ≡ overlay stored (map_block_start g i t) (map_block table g lent i t iv)
     → entered ≡ overlay (overlay device at (claimed_bytes g.b g.s key (part 0 g.b drawn) j text)) (map_block_start g i t)
     (map_block table g key i t (part (0 + g.b) 16 drawn))
-claimed_stored device stored entered table drawn lent key g at i t j text same slice block =
-    rw (← same)
-    (block
-    ∙ ap₂ (λ (s iv : List ℕ). overlay s (map_block_start g i t) (map_block table g lent i t iv))
-    (slice ∙ ap (λ (ivs : List ℕ). overlay device at (claimed_bytes g.b g.s lent ivs j text)) (first_lent drawn g.b))
-    (part_lent drawn g.b 16 (sym (zero-add g.b))))
+claimed_stored device stored entered table drawn ivs iv lent key g at i t j text long same front back slice block =
+    let last : part (0 + g.b) 16 drawn ≡ drop g.b drawn =
+    let e : 16 ≡ length (drop g.b drawn) = omega (arith, length-drop g.b drawn, long) in
+    rw (zero-add g.b, e) (take-length (drop g.b drawn)) in
+    rw (last, ← same, ← front, ← back, ← slice) block

@@ -5,11 +5,10 @@
 #![tactic(auto)]
 
 ghost use Rattle.std.specs.Prelude.{◌≡◌, ◌+◌, ◌-◌, ◌*◌, ◌≤◌, ◌<◌, length, set};
-ghost use Rattle.refusals.specs.declared.Refusal.TheVariants.{NoFreeSlice};
 ghost use Rattle.ctr_spec.specs.CounterMode.{ctr};
 ghost use Rattle.model.specs.Parts.{overlay};
 ghost use Rattle.model.specs.Geometry.{Allowed, device_length, map_block_start, slice_start, iv_start, block_start};
-ghost use Rattle.model.specs.Session.{held, starting_at, slot};
+ghost use Rattle.model.specs.Session.{held, slot};
 ghost use Rattle.model.specs.Maps.{map_block, map_block_of};
 ghost use Rattle.model.specs.Write.{WriteResult, claimed_bytes};
 ghost use Rattle.model.specs.Answers.{write_result, Leaves};
@@ -55,22 +54,17 @@ fn claim(
     ensures { device.new ≡ overlay device.old (slice_start g slice)
         (claimed_bytes g.b g.s key.now ivs.now j text.now) }
 {
-    let b = g.b;
-    let s = g.s;
     let start = places::slice_start(g, slice);
     places::store(device, start, ivs);
-    let mut at = start + b;
-    let mut n = 0;
-    while n < s {
+    for n in 0..g.s {
         let from = 16 * n;
-        let to = from + 16;
+        let iv = &ivs[from..from + 16];
+        let at = places::block_start(g, slice, n);
         if n == j {
-            enciphering::store_ctr(device, at, key, &ivs[from..to], text);
+            enciphering::store_ctr(device, at, key, iv, text);
         } else {
-            enciphering::store_zeros(device, at, key, &ivs[from..to], b);
+            enciphering::store_zeros(device, at, key, iv, g.b);
         }
-        at = at + b;
-        n += 1;
     }
 }
 
@@ -123,78 +117,51 @@ pub fn carry_out(
 {
     let g = session.geometry;
     match decision {
-        Decision::Refused { refusal, probes } => refused(refusal, probes, session),
-        Decision::Full => no_free_slice(session),
+        Decision::Refused { refusal, probes } => Written {
+            answer: WriteAnswer::Refused { refusal, probes },
+            session,
+        },
+        // All places from the start place on were looked at, and none is left.
+        Decision::Full => Written {
+            answer: WriteAnswer::Refused {
+                refusal: Refusal::NoFreeSlice,
+                probes: g.p - session.start,
+            },
+            session: requests::starting_at(session, g.p),
+        },
         Decision::Rewrite(slice) => {
-            let keys = session.keys;
-            let key = places::key_in(&keys, volume);
+            let key = places::key_in(&session.keys, volume);
             rewrite(device, g, key, drawn, slice, address % g.s, text);
-            served(Change::Rewritten(slice), 0, session)
+            Written {
+                answer: WriteAnswer::Served {
+                    change: Change::Rewritten(slice),
+                    probes: 0,
+                },
+                session,
+            }
         }
         Decision::Claim { slice, place } => {
-            let keys = session.keys;
-            let key = places::key_in(&keys, volume);
-            let b = g.b;
-            let end = b + 16;
-            claim(device, g, key, &drawn[0..b], slice, address % g.s, text);
+            let key = places::key_in(&session.keys, volume);
+            let (ivs, map_iv) = drawn.split_at(g.b);
+            claim(device, g, key, ivs, slice, address % g.s, text);
             enter(
                 device,
                 maps,
                 owners,
                 g,
                 key,
-                &drawn[b..end],
+                map_iv,
                 volume,
                 address / g.s,
                 slice,
             );
-            let looked = deciding::probes_to(session, place);
-            served(
-                Change::Claimed(slice),
-                looked,
-                requests::starting_at(session, place + 1),
-            )
+            Written {
+                answer: WriteAnswer::Served {
+                    change: Change::Claimed(slice),
+                    probes: deciding::probes_to(session, place),
+                },
+                session: requests::starting_at(session, place + 1),
+            }
         }
-    }
-}
-
-// A write that was refused, and one that was served.
-fn refused(refusal: Refusal, probes: usize, session: Session) -> Written
-    ensures { (result.answer ≡ WriteAnswer.Refused refusal probes) × (result.session ≡ session) }
-{
-    Written {
-        answer: WriteAnswer::Refused {
-            refusal: refusal,
-            probes: probes,
-        },
-        session: session,
-    }
-}
-
-fn served(change: Change, probes: usize, session: Session) -> Written
-    ensures { (result.answer ≡ WriteAnswer.Served change probes) × (result.session ≡ session) }
-{
-    Written {
-        answer: WriteAnswer::Served {
-            change: change,
-            probes: probes,
-        },
-        session: session,
-    }
-}
-
-// A write that found no free slice: all places from the start place on were looked at, and none is left.
-fn no_free_slice(session: Session) -> Written
-    requires { session.start ≤ session.geometry.p }
-    ensures { (result.answer ≡ WriteAnswer.Refused NoFreeSlice (session.geometry.p - session.start))
-        × (result.session ≡ starting_at session.geometry.p session) }
-{
-    let g = session.geometry;
-    Written {
-        answer: WriteAnswer::Refused {
-            refusal: Refusal::NoFreeSlice,
-            probes: g.p - session.start,
-        },
-        session: requests::starting_at(session, g.p),
     }
 }
