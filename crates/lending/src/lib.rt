@@ -13,7 +13,7 @@ ghost use Rattle.model.specs.Answers.{write_result, release_result, Leaves, Lent
 ghost use Rattle.refusals.specs.Numbers.{answer_number};
 
 use model::{Geometry, Released, Session, TapePosition, Written};
-use refusals::Answer;
+use refusals::Refusal;
 
 // `writing::write` with the tape position as a number.
 pub fn write_at(
@@ -91,7 +91,7 @@ pub fn format_at(
     counts: &[usize],
     tape: &[u8],
     at: &mut usize,
-) -> Answer
+) -> Result<(), Refusal>
     ensures { LentLeaves (format_model (length device.old) g volumes keys.now counts.now tape.now
         at.old) device.old at.old (answer_number result) device.new at.new }
 {
@@ -102,7 +102,7 @@ pub fn format_at(
 }
 
 // `shuffling::shuffle` with the tape position as a number.
-pub fn shuffle_at(g: Geometry, perm: &mut [u32], tape: &[u8], at: &mut usize) -> Answer
+pub fn shuffle_at(g: Geometry, perm: &mut [u32], tape: &[u8], at: &mut usize) -> Result<(), Refusal>
     ensures { LentLeaves (shuffle_model g (length perm.old) tape.now at.old) perm.old
         at.old (answer_number result) perm.new at.new }
 {
