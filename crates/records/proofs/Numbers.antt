@@ -1,12 +1,14 @@
 -- Laws of numbers of eight bytes, least significant first, and of such numbers one after the other. Assumes nothing.
 use mathlib.Core.Path.{◌≡◌, refl, sym, ap, ap₂, ◌∙◌}
 use mathlib.Core.List.{List, [], ◌∷◌, ◌++◌, append-nil, append_assoc}
-use Prim.Native.Nat.{ℕ, zero, suc, ◌+◌, ◌*◌, ◌/◌, ◌%◌, ◌^◌, ◌<◌}
-use native.Mathlib.Nat.{pow-suc, div-div-eq-div-mul}
+use Prim.Native.Nat.{ℕ, zero, suc, ◌+◌, ◌*◌, ◌/◌, ◌^◌, ◌<◌}
+use native.Mathlib.Nat.{div-div-eq-div-mul}
 use native.Mathlib.Numerals.{add-one}
 use native.Mathlib.Omega.{arith}
-use lib.ListN.{length, get_or, take, drop, length-append}
-use lib.Seq.{drop-cons, take-suc}
+use Rattle.std.specs.Int.{w64, from_le_bytes, to_le_bytes}
+use Rattle.std.proofs.lemmas.Nat.{from_le_bytes-to_le_bytes_8}
+use lib.ListN.{length, get_or, take, length-append}
+use lib.Seq.{take-suc}
 use Rattle.model.specs.Parts.{part}
 use Rattle.model.proofs.Parts.{part_first, part_right}
 use Rattle.records.specs.Numbers.{little_number, little_endian, eight_at, eight_bytes, numbers_at, numbers_bytes}
@@ -16,38 +18,22 @@ unfolding little_endian
 little_endian-length zero x = refl
 little_endian-length (suc n) x = ap suc (little_endian-length n (x / 256))
 
--- What is written reads back.
-pub little_number-little_endian : (n x : ℕ) → x < 256 ^ n → little_number (little_endian n x) ≡ x
-unfolding little_endian little_number
-little_number-little_endian zero x h = omega arith
-little_number-little_endian (suc n) x h =
-    let below : x / 256 < 256 ^ n = omega (arith, h, pow-suc 256 n) in
-    ap (λ (t : ℕ). t * 256 + x % 256) (little_number-little_endian n (x / 256) below) ∙ omega arith
-
--- One byte more, below those read so far, as a loop reads it.
-pub little_number_suc : (r : List ℕ) (a k x b : ℕ) → a < length r → x ≡ little_number (part (a + 1) k r) → b ≡ get_or r a 0
-    → x * 256 + b ≡ little_number (part a (k + 1) r)
+-- The number that the library reads, and the bytes that it writes.
+pub little_number-from_le_bytes : (bs : List ℕ) → length bs ≡ 8 → from_le_bytes w64 bs ≡ little_number bs
 unfolding little_number
-little_number_suc r a k x b h ex eb =
-    let e : part a (k + 1) r ≡ get_or r a 0 ∷ part (a + 1) k r =
-    ap (λ (n : ℕ). take n (drop a r)) (add-one k)
-    ∙ ap (take (suc k)) (drop-cons r a 0 h)
-    ∙ ap (λ (n : ℕ). get_or r a 0 ∷ take k (drop n r)) (sym (add-one a)) in
-    ap₂ (λ (p q : ℕ). p * 256 + q) ex eb ∙ sym (ap little_number e)
+little_number-from_le_bytes (a ∷ b ∷ c ∷ d ∷ e ∷ f ∷ g ∷ h ∷ []) l = omega arith
+little_number-from_le_bytes bs l = absurd (omega arith)
 
--- The bytes as shifts give them.
-pub eight_bytes-digits : (n : ℕ)
-    → n % 256
-    ∷ n / 2 ^ 8 % 256
-    ∷ n / 2 ^ 16 % 256
-    ∷ n / 2 ^ 24 % 256
-    ∷ n / 2 ^ 32 % 256
-    ∷ n / 2 ^ 40 % 256
-    ∷ n / 2 ^ 48 % 256
-    ∷ n / 2 ^ 56 % 256
-    ∷ [] ≡ eight_bytes n
+pub little_endian-to_le_bytes : (n : ℕ) → to_le_bytes w64 n ≡ eight_bytes n
 unfolding little_endian
-eight_bytes-digits n = sym (simp div-div-eq-div-mul)
+little_endian-to_le_bytes n = sym (simp div-div-eq-div-mul)
+
+-- What is written reads back.
+pub eight_bytes_again : (n : ℕ) → n < 2 ^ 64 → little_number (eight_bytes n) ≡ n
+eight_bytes_again n h =
+    sym (little_number-from_le_bytes (eight_bytes n) (little_endian-length 8 n))
+    ∙ ap (from_le_bytes w64) (sym (little_endian-to_le_bytes n))
+    ∙ from_le_bytes-to_le_bytes_8 n h
 
 -- ---- numbers one after the other
 

@@ -5,6 +5,7 @@ use mathlib.Core.List.{List, [], ◌++◌, append-nil}
 use Prim.Native.Nat.{ℕ, ◌+◌, ◌*◌, ◌^◌, ◌<◌}
 use native.Mathlib.Omega.{arith}
 use lib.Dec.{eqb}
+use Rattle.std.specs.Int.{from_bool}
 use lib.ListN.{length, get_or, take, length-append}
 use lib.Seq.{length-take-le}
 use borrow.Author.Tests.{eqb-true, eq-eqb, ne_eqb}
@@ -17,7 +18,7 @@ use Rattle.places.proofs.Parts.{overlay_append, overlay_all}
 use Rattle.records.specs.Numbers.{eight_at, eight_bytes, numbers_bytes, three_bytes, little_number}
 use Rattle.records.specs.Structs.{bit_of, geometry_in, geometry_bytes, session_in, session_bytes, handed_back}
 use Rattle.records.specs.Theorems.{Numbers64, Fits, SessionFields, Fields}
-use Rattle.records.proofs.Numbers.{little_endian-length, little_number-little_endian}
+use Rattle.records.proofs.Numbers.{little_endian-length, eight_bytes_again}
 use Rattle.records.proofs.Numbers.{numbers_at_entries, numbers_bytes-length, numbers_bytes_part, numbers_bytes_turn}
 
 -- ---- lengths
@@ -71,13 +72,18 @@ not_both a m b n h = go (eqb a m) refl (eqb b n) refl
 overlay_next : (r : List ℕ) (at n : ℕ) (d e : List ℕ) → length d ≡ n → overlay (overlay r at d) (at + n) e ≡ overlay r at (d ++ e)
 overlay_next r at n d e l = ap (λ (m : ℕ). overlay (overlay r at d) (at + m) e) (sym l) ∙ overlay_append r at d e
 
+-- The library's conversion gives the same number.
+pub bit_of-from_bool : (b : Bool) → from_bool b ≡ bit_of b
+bit_of-from_bool true = refl
+bit_of-from_bool false = refl
+
 bit_small : (b : Bool) → bit_of b < 2 ^ 64
 bit_small true = omega arith
 bit_small false = omega arith
 
 -- A number that stands at its place reads back.
 eight_again : (at x : ℕ) (r : List ℕ) → part at 8 r ≡ eight_bytes x → x < 2 ^ 64 → eight_at at r ≡ x
-eight_again at x r e h = ap little_number e ∙ little_number-little_endian 8 x h
+eight_again at x r e h = ap little_number e ∙ eight_bytes_again x h
 
 module _ (x y z : ℕ) (rest : List ℕ) where
   first_part : part 0 8 (three_bytes x y z ++ rest) ≡ eight_bytes x

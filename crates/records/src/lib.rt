@@ -5,31 +5,21 @@
 ghost use Rattle.std.specs.Prelude.{◌≡◌, ◌+◌, ◌≤◌, ◌<◌, length};
 ghost use Rattle.model.specs.Parts.{part, overlay};
 ghost use Rattle.records.specs.Numbers.{eight_at, eight_bytes, numbers_at, numbers_bytes, three_bytes};
-ghost use Rattle.records.specs.Structs.{geometry_in, session_in, session_bytes, handed_back, bit_of};
+ghost use Rattle.records.specs.Structs.{geometry_in, session_in, session_bytes, handed_back};
 ghost use Rattle.records.specs.Theorems.{RecordLaws};
 
 use model::{Geometry, Session};
 
 // ---- numbers
 
-fn wide(x: u8) -> usize
-    ensures { (result ≡ x) × (result < 256) }
-{
-    x as usize
-}
-
 // The number of the eight bytes of r from place at on.
 fn eight_at(r: &[u8], at: usize) -> usize
     requires { at + 8 ≤ length r.now }
     ensures { result ≡ eight_at at r.now }
 {
-    let mut x: usize = 0;
-    let mut k: usize = 0;
-    while k < 8 {
-        x = x * 256 + wide(r[at + 7 - k]);
-        k += 1;
-    }
-    x
+    let mut bytes = [0u8; 8];
+    bytes.copy_from_slice(&r[at..at + 8]);
+    usize::from_le_bytes(bytes)
 }
 
 // The eight bytes of n over those of r from place at on.
@@ -37,16 +27,7 @@ fn put_eight(r: &mut [u8], at: usize, n: usize)
     requires { at + 8 ≤ length r.old }
     ensures { r.new ≡ overlay r.old at (eight_bytes n) }
 {
-    let bytes = [
-        (n % 256) as u8,
-        ((n >> 8) % 256) as u8,
-        ((n >> 16) % 256) as u8,
-        ((n >> 24) % 256) as u8,
-        ((n >> 32) % 256) as u8,
-        ((n >> 40) % 256) as u8,
-        ((n >> 48) % 256) as u8,
-        ((n >> 56) % 256) as u8,
-    ];
+    let bytes = n.to_le_bytes();
     places::store(r, at, &bytes);
 }
 
@@ -58,13 +39,6 @@ pub fn put_three(r: &mut [u8], at: usize, x: usize, y: usize, z: usize)
     put_eight(r, at, x);
     put_eight(r, at + 8, y);
     put_eight(r, at + 16, z);
-}
-
-// 1 for true, 0 for false.
-pub fn bit_of(b: bool) -> usize
-    ensures { result ≡ bit_of b }
-{
-    if b { 1 } else { 0 }
 }
 
 // ---- geometry and session
@@ -87,7 +61,7 @@ fn keys_in(r: &[u8]) -> [u8; 480]
     ensures { result ≡ part 48 480 r.now }
 {
     let mut keys = [0u8; 480];
-    block::copy(&mut keys, &r[48..528]);
+    keys.copy_from_slice(&r[48..528]);
     keys
 }
 
@@ -97,10 +71,8 @@ fn counts_in(r: &[u8]) -> [usize; 15]
     ensures { result ≡ numbers_at 15 528 r.now }
 {
     let mut counts = [0usize; 15];
-    let mut i = 0;
-    while i < 15 {
+    for i in 0..15 {
         counts[i] = eight_at(r, 528 + 8 * i);
-        i += 1;
     }
     counts
 }
@@ -125,10 +97,8 @@ fn put_counts(r: &mut [u8], counts: &[usize])
     requires { (length r.old ≡ 648) × (length counts.now ≡ 15) }
     ensures { r.new ≡ overlay r.old 528 (numbers_bytes counts.now) }
 {
-    let mut i = 0;
-    while i < counts.len() {
-        put_eight(r, 528 + 8 * i, counts[i]);
-        i += 1;
+    for (i, n) in counts.iter().enumerate() {
+        put_eight(r, 528 + 8 * i, *n);
     }
 }
 
@@ -139,14 +109,13 @@ pub fn put_session(r: &mut [u8], s: Session)
 {
     let g = s.geometry;
     put_three(r, 0, g.b, g.s, g.p);
-    put_three(r, 24, s.k, bit_of(s.opened), s.start);
-    let keys = s.keys;
-    places::store(r, 48, &keys);
-    let counts = s.counts;
-    put_counts(r, &counts);
+    put_three(r, 24, s.k, usize::from(s.opened), s.start);
+    places::store(r, 48, &s.keys);
+    put_counts(r, &s.counts);
 }
 
-// A session into its struct where the call was served or found no free slice; another refusal leaves the bytes.
+// A session into its struct where the call was served or found no free slice; another refusal leaves the bytes. The answer comes as the
+// number that C is given: those of a write, a release and a close have types of their own.
 pub fn hand_back(r: &mut [u8], s: Session, number: u8)
     requires { length r.old ≡ 648 }
     ensures { r.new ≡ handed_back number (session_bytes s) r.old }
