@@ -3,9 +3,8 @@ use Prim.Native.Nat.{ℕ}
 use mathlib.Core.Path.{◌≡◌, refl, ap, ◌∙◌}
 use mathlib.Core.List.{List}
 use lib.ListN.{length, replicate}
+use Rattle.std.specs.Prelude.{Result, Ok, Err}
 use Rattle.refusals.specs.Numbers.{answer_number}
-use Rattle.refusals.specs.declared.Answer.{Answer}
-use Rattle.refusals.specs.declared.Answer.TheVariants.{Served, Refused}
 use Rattle.refusals.specs.declared.Refusal.{Refusal}
 use Rattle.refusals.proofs.Positive.{refusal_positive}
 use Rattle.model.specs.declared.Session.{Session}
@@ -18,20 +17,20 @@ use Rattle.model.proofs.Order.{unless_refused_lem}
 
 module _ (device maps owners : List ℕ) (s : Session) where
   -- What a close has to leave on tables and session.
-  abbrev Right : Answer → (maps owners : List ℕ) → Session → Type 0
+  abbrev Right : Result Unit Refusal → (maps owners : List ℕ) → Session → Type 0
   Right result maps' owners' s' =
       (position : ℕ)
       → Leaves CloseResult (close_model (length device) (held maps owners position s)) device (close_result result) device maps' owners' position s'
 
-  module _ (bad : Answer) (refusals : answer_number bad ≡ standing (length device) (length maps) (length owners) s 0) where
-    pub close_refused : (r : Refusal) → bad ≡ Refused r → Right bad maps owners s
+  module _ {bad : Result Unit Refusal} (refusals : answer_number bad ≡ standing (length device) (length maps) (length owners) s 0) where
+    pub close_refused : {r : Refusal} → bad ≡ Err r → Right (Err r) maps owners s
     unfolding close_model patched
-    close_refused r q position =
+    close_refused {r = r} q position =
         rw (← refusals, q, unless_refused_lem _ _ _ (refusal_positive r))
         (record { answered = refl; stored = refl; mapped = refl; owned = refl; moved = refl; handed = refl })
 
-    pub close_served : bad ≡ Served → {maps' owners' : List ℕ} {s' : Session} → maps' ≡ replicate (length maps) unmapped
-        → owners' ≡ replicate (length owners) 0 → s' ≡ closed_session s → Right Served maps' owners' s'
+    pub close_served : {u : Unit} → bad ≡ Ok u → {maps' owners' : List ℕ} {s' : Session} → maps' ≡ replicate (length maps) unmapped
+        → owners' ≡ replicate (length owners) 0 → s' ≡ closed_session s → Right (Ok u) maps' owners' s'
     unfolding close_model patched
     close_served q m o h position =
         let none : standing (length device) (length maps) (length owners) s 0 ≡ 0 = rw (← refusals, q) refl in

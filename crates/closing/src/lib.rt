@@ -9,22 +9,15 @@ ghost use Rattle.model.specs.Close.{CloseResult, closed_session, close_model};
 ghost use Rattle.model.specs.Answers.{close_result, Leaves};
 
 use model::{Reply, Session};
-use refusals::Answer;
 
 // The session after a close: closed, its keys 0, geometry, k, start place and counts as they were.
 fn closed_session(session: Session) -> Session
     ensures { result ≡ closed_session session }
 {
-    let g = session.geometry;
-    let none = [0u8; 480];
-    let kept = session.counts;
     Session {
-        geometry: g,
-        k: session.k,
-        keys: none,
+        keys: [0u8; 480],
         opened: false,
-        start: session.start,
-        counts: kept,
+        ..session
     }
 }
 
@@ -35,17 +28,17 @@ pub fn close(device: &[u8], maps: &mut [u32], owners: &mut [u8], session: Sessio
         (close_model (length device.now) (held maps.old owners.old position session))
         device.now (close_result result.answer) device.now maps.new owners.new position result.session }
 {
-    let bad = requests::check_standing(device.len(), maps.len(), owners.len(), session);
-    if let Answer::Refused(_) = bad {
+    let standing = requests::check_standing(device.len(), maps.len(), owners.len(), session);
+    if let Err(refusal) = standing {
         return Reply {
-            answer: bad,
-            session: session,
+            answer: Err(refusal),
+            session,
         };
     }
     tables::unmap(maps);
-    places::clear(owners);
+    owners.fill(0);
     Reply {
-        answer: Answer::Served,
+        answer: Ok(()),
         session: closed_session(session),
     }
 }
