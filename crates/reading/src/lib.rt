@@ -10,7 +10,7 @@ ghost use Rattle.model.specs.Read.{deciphered, read_refusal, read_model, find_mo
 ghost use Rattle.model.specs.Answers.{read_number, read_buffer};
 
 use model::{Geometry, Reply, Session};
-use refusals::{Answer, Refusal};
+use refusals::Refusal;
 
 // All refusals of a read with a buffer of room bytes.
 fn read_refusal(
@@ -21,13 +21,10 @@ fn read_refusal(
     volume: usize,
     address: usize,
     room: usize,
-) -> Answer
+) -> Result<(), Refusal>
     ensures { answer_number result ≡ read_refusal device maps.now owners.now session volume address room }
 {
-    let bad = requests::check_standing(device, maps.len(), owners.len(), session);
-    if let Answer::Refused(_) = bad {
-        return bad;
-    }
+    requests::check_standing(device, maps.len(), owners.len(), session)?;
     requests::check_asked(maps, session, volume, address, room)
 }
 
@@ -38,12 +35,10 @@ fn decipher(device: &[u8], g: Geometry, key: &[u8], entry: usize, j: usize, buf:
 {
     if entry < g.p {
         let iv = places::iv_start(g, entry, j);
-        let iv_end = iv + 16;
         let at = places::block_start(g, entry, j);
-        let end = at + g.b;
-        ctr::ctr_into(key, &device[iv..iv_end], &device[at..end], buf);
+        ctr::ctr_into(key, &device[iv..iv + 16], &device[at..at + g.b], buf);
     } else {
-        places::clear(buf);
+        buf.fill(0);
     }
 }
 
@@ -63,7 +58,7 @@ pub fn read(
         owners.now session volume address (length buf.old)) buf.old }
     ensures session { result.session ≡ session }
 {
-    let bad = read_refusal(
+    let refused = read_refusal(
         device.len(),
         maps,
         owners,
@@ -72,20 +67,19 @@ pub fn read(
         address,
         buf.len(),
     );
-    if let Answer::Refused(_) = bad {
+    if let Err(refusal) = refused {
         return Reply {
-            answer: bad,
-            session: session,
+            answer: Err(refusal),
+            session,
         };
     }
     let g = session.geometry;
-    let keys = session.keys;
-    let key = places::key_in(&keys, volume);
+    let key = places::key_in(&session.keys, volume);
     let entry = tables::entry_at(maps, g, volume, address / g.s);
     decipher(device, g, key, entry, address % g.s, buf);
     Reply {
-        answer: Answer::Served,
-        session: session,
+        answer: Ok(()),
+        session,
     }
 }
 
@@ -102,16 +96,15 @@ pub fn find<'a>(
     ensures { result.now ≡ find_model device.now maps.now owners.now session volume address }
 {
     let g = session.geometry;
-    let bad = read_refusal(device.len(), maps, owners, session, volume, address, g.b);
-    if let Answer::Refused(_) = bad {
-        return &device[0..0];
+    let refused = read_refusal(device.len(), maps, owners, session, volume, address, g.b);
+    if let Err(_) = refused {
+        return &[];
     }
     let entry = tables::entry_at(maps, g, volume, address / g.s);
     if entry < g.p {
         let at = places::block_start(g, entry, address % g.s);
-        let end = at + g.b;
-        &device[at..end]
+        &device[at..at + g.b]
     } else {
-        &device[0..0]
+        &[]
     }
 }
