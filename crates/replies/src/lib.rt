@@ -1,33 +1,30 @@
-// The answers of an opening, a write and a release as the C functions hand them over (include/hiwalgam.h): the struct of a write's
-// answer, the slice that a release freed, and the numbers that they return. What a formatting and a shuffle hand over is a definition
+// The answers of a write and a release as the C functions hand them over (include/hiwalgam.h): the struct of a write's answer and its
+// number, and the slice that a release freed. What a formatting and a shuffle hand over is a definition
 // alone (`LentHanded`), with its laws.
 #![tactic(auto)]
 
 ghost use Rattle.std.specs.Prelude.{◌≡◌, length};
-ghost use Rattle.model.specs.Answers.{open_result, change_slice, write_result, release_result};
-ghost use Rattle.replies.specs.Answers.{open_number, write_number, release_number, freed_slice};
+ghost use Rattle.model.specs.Answers.{change_slice, write_result, release_result};
+ghost use Rattle.replies.specs.Answers.{write_number, freed_slice};
 ghost use Rattle.replies.specs.Written.{change_claimed, written_bytes};
 ghost use Rattle.replies.specs.Theorems.{ReplyLaws};
 
-use model::{Change, OpenAnswer, ReleaseAnswer, WriteAnswer};
+use model::{Change, WriteAnswer};
+use refusals::Refusal;
 
 // ---- the answer of a write
 
 fn change_claimed(change: Change) -> bool
     ensures { result ≡ change_claimed change }
 {
-    match change {
-        Change::Claimed(_) => true,
-        Change::Rewritten(_) => false,
-    }
+    matches!(change, Change::Claimed(_))
 }
 
 fn change_slice(change: Change) -> usize
     ensures { result ≡ change_slice change }
 {
     match change {
-        Change::Claimed(slice) => slice,
-        Change::Rewritten(slice) => slice,
+        Change::Claimed(slice) | Change::Rewritten(slice) => slice,
     }
 }
 
@@ -38,62 +35,30 @@ pub fn put_written(r: &mut [u8], answer: WriteAnswer)
 {
     match answer {
         WriteAnswer::Served { change, probes } => {
-            records::put_three(
-                r,
-                0,
-                records::bit_of(change_claimed(change)),
-                change_slice(change),
-                probes,
-            );
+            let claimed = usize::from(change_claimed(change));
+            records::put_three(r, 0, claimed, change_slice(change), probes);
         }
-        WriteAnswer::Refused { refusal: _, probes } => {
-            records::put_three(r, 0, 0, 0, probes);
-        }
+        WriteAnswer::Refused { probes, .. } => records::put_three(r, 0, 0, 0, probes),
     }
 }
 
-// ---- the numbers of answers
-
-pub fn open_number(answer: OpenAnswer) -> u8
-    ensures { result ≡ open_number (open_result answer) }
-{
-    match answer {
-        OpenAnswer::Opened(_) => 0,
-        OpenAnswer::Refused(r) => refusals::refusal_number(r),
-    }
-}
-
+// The number of a write's answer. Those of an opening and a release are `refusals::answer_number`.
 pub fn write_number(answer: WriteAnswer) -> u8
     ensures { result ≡ write_number (write_result answer) }
 {
     match answer {
-        WriteAnswer::Served {
-            change: _,
-            probes: _,
-        } => 0,
-        WriteAnswer::Refused { refusal, probes: _ } => refusals::refusal_number(refusal),
-    }
-}
-
-pub fn release_number(answer: ReleaseAnswer) -> u8
-    ensures { result ≡ release_number (release_result answer) }
-{
-    match answer {
-        ReleaseAnswer::Freed(_) => 0,
-        ReleaseAnswer::Refused(r) => refusals::refusal_number(r),
+        WriteAnswer::Served { .. } => 0,
+        WriteAnswer::Refused { refusal, .. } => u8::from(refusal),
     }
 }
 
 // ---- the slice that a release freed
 
-pub fn put_freed(slice: &mut usize, answer: ReleaseAnswer)
+pub fn put_freed(slice: &mut usize, answer: Result<usize, Refusal>)
     ensures { slice.new ≡ freed_slice (release_result answer) slice.old }
 {
-    match answer {
-        ReleaseAnswer::Freed(freed) => {
-            *slice = freed;
-        }
-        ReleaseAnswer::Refused(_) => {}
+    if let Ok(freed) = answer {
+        *slice = freed;
     }
 }
 
