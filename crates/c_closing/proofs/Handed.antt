@@ -4,20 +4,17 @@ use mathlib.Core.Path.{◌≡◌, refl, ap, ◌∙◌}
 use mathlib.Core.List.{List}
 use lib.ListN.{length}
 use borrow.Author.Tests.{eq-eqb, ne_eqb}
+use Rattle.std.specs.Prelude.{Result}
 use Rattle.refusals.specs.Numbers.{answer_number}
-use Rattle.refusals.specs.declared.Answer.{Answer}
-use Rattle.refusals.specs.declared.Answer.TheVariants.{Served, Refused}
+use Rattle.refusals.specs.declared.Refusal.{Refusal}
 use Rattle.model.specs.declared.Session.{Session}
 use Rattle.model.specs.Session.{Outcome}
 use Rattle.model.specs.Close.{CloseResult}
 use Rattle.model.specs.Answers.{close_result, Leaves}
 use Rattle.records.specs.Structs.{session_bytes, handed_back}
 use Rattle.replies.specs.Answers.{close_number}
+use Rattle.replies.proofs.Answers.{close_number_answer}
 use Rattle.c_closing.specs.Handed.{CloseHanded}
-
-close_number_answer : (a : Answer) → answer_number a ≡ close_number (close_result a)
-close_number_answer Served = refl
-close_number_answer (Refused r) = refl
 
 module _ {session₀ device maps₀ owners₀ : List ℕ} {position : ℕ} {o : Outcome CloseResult} where
   pub close_session : (length session₀ ≡ 648 → ⊥)
@@ -33,7 +30,7 @@ module _ {session₀ device maps₀ owners₀ : List ℕ} {position : ℕ} {o : 
         handed = refl;
       }
 
-  pub close_sized : (a : Answer) {maps owners session : List ℕ} {number : ℕ} {s : Session} → length session₀ ≡ 648
+  pub close_sized : (a : Result Unit Refusal) {maps owners session : List ℕ} {number : ℕ} {s : Session} → length session₀ ≡ 648
       → Leaves CloseResult o device (close_result a) device maps owners position s → number ≡ answer_number a
       → session ≡ handed_back number (session_bytes s) session₀
       → CloseHanded session₀ o device maps₀ owners₀ position number maps owners session

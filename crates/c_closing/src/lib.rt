@@ -27,8 +27,7 @@ pub extern "C" fn hiwalgam_close(
     }
     let s = records::session_in(session);
     let r = closing::close(device, maps, owners, s);
-    let answer = r.answer;
-    let number = refusals::answer_number(answer);
+    let number = refusals::answer_number(r.answer);
     records::hand_back(session, r.session, number);
     number
 }
