@@ -32,6 +32,5 @@ pub extern "C" fn hiwalgam_read(
     }
     let s = records::session_in(session);
     let r = reading::read(device, maps, owners, s, volume, address, buf);
-    let answer = r.answer;
-    refusals::answer_number(answer)
+    refusals::answer_number(r.answer)
 }
