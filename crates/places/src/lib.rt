@@ -4,7 +4,7 @@
 // device has 4,312,117,248 bytes, and all of it is computed in 64 bits.
 #![tactic(auto)]
 
-ghost use Rattle.std.specs.Prelude.{◌≡◌, ◌+◌, ◌-◌, ◌*◌, ◌≤◌, ◌<◌, ◌^◌, length, replicate};
+ghost use Rattle.std.specs.Prelude.{◌≡◌, ◌+◌, ◌*◌, ◌≤◌, ◌<◌, length, replicate};
 ghost use Rattle.refusals.specs.Numbers.{refusal_number, answer_number};
 ghost use Rattle.model.specs.Parts.{overlay};
 ghost use Rattle.model.specs.Geometry.{Allowed, bad_geometry, bad_count, any_bad_count, per_block, map_blocks, header_blocks, device_length, number_at, four_bytes};
