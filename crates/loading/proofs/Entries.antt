@@ -2,7 +2,7 @@
 use Prim.Native.Nat.{ℕ, ◌+◌, ◌-◌, ◌*◌, ◌/◌, ◌%◌, ◌≤◌, ◌<◌}
 use mathlib.Core.Path.{◌≡◌, sym, ap, ap₂, ◌∙◌}
 use mathlib.Core.List.{List}
-use native.Mathlib.Nat.{mod-lt, mul-le-mul_left}
+use native.Mathlib.Nat.{mod-lt, mul-le-mul_left, div-add-mod', le-div_iff_mul-le}
 use native.Mathlib.Omega.{arith}
 use lib.Arith.{digits_div, digits_mod}
 use lib.ListN.{length, take, drop}
@@ -11,7 +11,7 @@ use Rattle.model.specs.declared.Geometry.{Geometry}
 use Rattle.model.specs.Parts.{part}
 use Rattle.model.specs.Geometry.{Allowed, per_block, map_blocks, device_length, number_at, header_start, header_of}
 use Rattle.model.specs.Opening.{stored_entry, map_entries}
-use Rattle.model.proofs.Bounds.{b_bounds, map_block_of_lem}
+use Rattle.model.proofs.Bounds.{b_bounds, per_block_least, map_block_of_lem}
 use Rattle.chaining.proofs.Headers.{part_header}
 
 module _ (g : Geometry) where
@@ -28,9 +28,27 @@ module _ (g : Geometry) where
       ∙ ap₂ (λ (x y : ℕ). number_at (4 * x) (block_text key header y)) (digits_mod t l) (digits_div t l)
 
   module _ (ok : Allowed g) where
+    -- Each map block begins within the entries of a volume, and they end with the last.
+    pub block_begins : (t : ℕ) → t < map_blocks g → t * per_block g < g.p
+    unfolding map_blocks
+    block_begins t l =
+        let one = per_block_least g ok in
+        omega (arith, one, (le-div_iff_mul-le {k = per_block g} {x = t + 1} {y = g.p + (per_block g - 1)} one).0 (omega arith))
+
+    pub blocks_end : g.p ≤ map_blocks g * per_block g
+    unfolding map_blocks
+    blocks_end =
+        let y : ℕ = g.p + (per_block g - 1) in
+        let one = per_block_least g ok in
+        omega (arith, one, div-add-mod' y (per_block g), mod-lt y one)
+
     -- A map block ends within its header.
     pub map_block_fits : (t : ℕ) → t < map_blocks g → g.b * (1 + t) + g.b ≤ g.b * (1 + map_blocks g)
     map_block_fits t l = omega (arith, mul-le-mul_left {m = 1 + t + 1} {n = 1 + map_blocks g} g.b (omega arith))
+
+    pub block_lies : (t header : ℕ) → t < map_blocks g → g.b * (1 + map_blocks g) ≤ header
+        → (g.b * (1 + t) + g.b ≤ header) × (1024 ≤ g.b) × (g.b ≤ 4096)
+    block_lies t header l h = let b = b_bounds g ok in (omega (arith, map_block_fits t l), b.0, b.1)
 
     -- An entry is the same where more of the device follows its header.
     stored_entry_longer : (key device : List ℕ) (v : ℕ) → v ≤ 14 → length device ≡ device_length g → {s : ℕ} → s ≡ header_start g v → (σ : ℕ) → σ < g.p

@@ -1,13 +1,15 @@
 -- Laws of loading entries into the tables, a run of them after another. Assumes nothing.
-use Prim.Native.Nat.{ℕ, zero, suc, ◌+◌, ◌-◌, ◌/◌, ◌%◌, ◌≤◌, ◌<◌}
+use Prim.Native.Nat.{ℕ, zero, suc, ◌+◌, ◌/◌, ◌%◌, ◌≤◌, ◌<◌}
 use mathlib.Core.Path.{◌≡◌, refl, sym, ap, ap₂, ◌∙◌, subst}
 use mathlib.Core.Bool.{Bool, true, false}
 use mathlib.Core.List.{List}
 use native.Mathlib.Nat.{zero-add, add-zero, suc-add, add-suc}
-use native.Mathlib.Numerals.{add-one}
 use native.Mathlib.Omega.{arith}
 use lib.Dec.{eqb}
 use lib.ListN.{get_or, set}
+use Rattle.refusals.specs.declared.Refusal.{Refusal}
+use Rattle.refusals.specs.Numbers.{refusal_number}
+use Rattle.refusals.proofs.Positive.{refusal_positive}
 use Rattle.model.specs.Parts.{choose}
 use Rattle.model.specs.Geometry.{count_in}
 use Rattle.model.specs.Session.{unmapped, placed}
@@ -24,10 +26,10 @@ pub settled_spoilt : (l : Loaded) (n : ℕ) (maps owners : List ℕ) → Settled
 settled_spoilt (Tables m o) n maps owners (e, q, t) h = absurd (h e)
 settled_spoilt (Spoilt r) n maps owners (e, q) h = ap Spoilt (sym e)
 
-pub tables_settled : {l : Loaded} {maps owners : List ℕ} → l ≡ Tables maps owners → Settled l 0 maps owners
+tables_settled : {l : Loaded} {maps owners : List ℕ} → l ≡ Tables maps owners → Settled l 0 maps owners
 tables_settled e = rw e (refl, refl, refl)
 
-pub spoilt_settled : {l : Loaded} (n : ℕ) (maps owners : List ℕ) → l ≡ Spoilt n → (n ≡ 0 → ⊥) → Settled l n maps owners
+spoilt_settled : {l : Loaded} (n : ℕ) (maps owners : List ℕ) → l ≡ Spoilt n → (n ≡ 0 → ⊥) → Settled l n maps owners
 spoilt_settled n maps owners e h = rw e (refl, h)
 
 pub settled_by : {l k : Loaded} → l ≡ k → (n : ℕ) (maps owners : List ℕ) → Settled l n maps owners → Settled k n maps owners
@@ -36,16 +38,16 @@ settled_by e n maps owners h = subst (λ (t : Loaded). Settled t n maps owners) 
 -- ---- one run after another
 
 -- What follows where nothing is spoilt.
-unfoldable pub and_then : Loaded → (List ℕ → List ℕ → Loaded) → Loaded
+unfoldable and_then : Loaded → (List ℕ → List ℕ → Loaded) → Loaded
 and_then (Tables m o) more = more m o
 and_then (Spoilt n) more = Spoilt n
 
-pub and_then_tables : {l : Loaded} {maps owners : List ℕ} (more : List ℕ → List ℕ → Loaded) → l ≡ Tables maps owners
+and_then_tables : {l : Loaded} {maps owners : List ℕ} (more : List ℕ → List ℕ → Loaded) → l ≡ Tables maps owners
     → and_then l more ≡ more maps owners
 unfolding and_then
 and_then_tables more e = rw e
 
-pub and_then_spoilt : {l : Loaded} {n : ℕ} (more : List ℕ → List ℕ → Loaded) → l ≡ Spoilt n → and_then l more ≡ Spoilt n
+and_then_spoilt : {l : Loaded} {n : ℕ} (more : List ℕ → List ℕ → Loaded) → l ≡ Spoilt n → and_then l more ≡ Spoilt n
 unfolding and_then
 and_then_spoilt more e = rw e
 
@@ -66,22 +68,22 @@ module _ (p : ℕ) (counts : List ℕ) where
       by_tests false true false = refl
 
   module _ (f : ℕ → ℕ) where
-    pub load_done : (left n : ℕ) (maps owners : List ℕ) → left ≡ 0 → load p counts f left n maps owners ≡ Tables maps owners
+    load_done : (left n : ℕ) (maps owners : List ℕ) → left ≡ 0 → load p counts f left n maps owners ≡ Tables maps owners
     unfolding load
     load_done left n maps owners e = rw e
 
-    -- The next entry of a run that is not at its end.
-    pub load_next : (count e n : ℕ) (maps owners : List ℕ) → e < count
-        → load p counts f (count - e) n maps owners
-        ≡ and_then (settle p counts (f n) n maps owners Tables) (load p counts f (count - (e + 1)) (n + 1))
-    unfolding load
-    load_next count e n maps owners l =
-        let k : count - e ≡ suc (count - (e + 1)) = omega arith in
-        ap (λ (c : ℕ). load p counts f c n maps owners) k
-        ∙ rw (add-one n) (settle_then (f n) n maps owners (load p counts f (count - (e + 1)) (suc n)))
+    -- A run of one entry.
+    pub load_one : (n : ℕ) (maps owners : List ℕ) → load p counts f 1 n maps owners ≡ settle p counts (f n) n maps owners Tables
+    unfolding load and_then
+    load_one n maps owners =
+        settle_then (f n) n maps owners (load p counts f 0 (suc n)) ∙ go (settle p counts (f n) n maps owners Tables)
+      where
+        go : (l : Loaded) → and_then l (load p counts f 0 (suc n)) ≡ l
+        go (Tables m o) = refl
+        go (Spoilt r) = refl
 
     -- A run in two parts.
-    pub load_run : (a b n : ℕ) (maps owners : List ℕ)
+    load_run : (a b n : ℕ) (maps owners : List ℕ)
         → load p counts f (a + b) n maps owners ≡ and_then (load p counts f a n maps owners) (load p counts f b (n + a))
     unfolding load and_then
     load_run zero b n maps owners = ap₂ (λ (j k : ℕ). load p counts f j k maps owners) (zero-add b) (sym (add-zero n))
@@ -97,6 +99,26 @@ module _ (p : ℕ) (counts : List ℕ) where
         go ih (Tables m o) =
             ih m o ∙ ap (λ (k : ℕ). and_then (load p counts f a (suc n) m o) (load p counts f b k)) (suc-add n a ∙ sym (add-suc n a))
         go ih (Spoilt r) = refl
+
+    -- The first part of what is left of a run: where it is spoilt, so is the run; else the rest goes on from the tables so far.
+    module _ (a b n : ℕ) (maps owners maps' owners' : List ℕ) {whole : Loaded} {left : ℕ} (so_far : whole ≡ load p counts f left n maps owners)
+        (parts : left ≡ a + b) where
+      next : whole ≡ and_then (load p counts f a n maps owners) (load p counts f b (n + a))
+      next = so_far ∙ ap (λ (k : ℕ). load p counts f k n maps owners) parts ∙ load_run a b n maps owners
+
+      pub part_spoilt : (r : Refusal) → Settled (load p counts f a n maps owners) (refusal_number r) maps' owners'
+          → Settled whole (refusal_number r) maps' owners'
+      part_spoilt r settled =
+          let h : refusal_number r ≡ 0 → ⊥ = λ e. omega (arith, refusal_positive r) in
+          spoilt_settled _ maps' owners' (next ∙ and_then_spoilt _ (settled_spoilt _ _ maps' owners' settled h)) h
+
+      pub part_loaded : Settled (load p counts f a n maps owners) 0 maps' owners' → whole ≡ load p counts f b (n + a) maps' owners'
+      part_loaded settled = next ∙ and_then_tables _ (settled_tables _ 0 maps' owners' settled refl)
+
+    -- A run of which nothing is left.
+    pub run_done : {whole : Loaded} (left n : ℕ) (maps owners : List ℕ) → whole ≡ load p counts f left n maps owners → left ≡ 0
+        → Settled whole 0 maps owners
+    run_done left n maps owners so_far e = tables_settled (so_far ∙ load_done left n maps owners e)
 
   -- Only the entries of the run matter.
   pub load_cong : (f g : ℕ → ℕ) (c n : ℕ) (maps owners : List ℕ) → ((i : ℕ) → n ≤ i → i < n + c → f i ≡ g i)

@@ -10,7 +10,7 @@ ghost use Rattle.model.specs.Opening.{stored_entry, map_entries, load};
 ghost use Rattle.tables.specs.Settled.{Settled};
 
 use model::Geometry;
-use refusals::Answer;
+use refusals::Refusal;
 
 // The entries of a deciphered map block into the tables, from index n of the map table on.
 fn load_entries(
@@ -20,22 +20,17 @@ fn load_entries(
     text: &[u8],
     n: usize,
     count: usize,
-) -> Answer
+) -> Result<(), Refusal>
     requires { (length maps.old ≡ 15 * length owners.old) × (length owners.old ≤ 4096) × (length counts.now ≡ 15)
         × (n + count ≤ length maps.old) × (4 * count ≤ length text.now) }
     ensures { Settled (load (length owners.old) counts.now (λ i. number_at (4 * (i - n)) text.now) count n
         maps.old owners.old) (answer_number result) maps.new owners.new }
 {
-    let mut e = 0;
-    while e < count {
+    for e in 0..count {
         let x = places::number_at(text, 4 * e);
-        let bad = tables::settle_one(maps, owners, counts, x, n + e);
-        if let Answer::Refused(_) = bad {
-            return bad;
-        }
-        e += 1;
+        tables::settle_one(maps, owners, counts, x, n + e)?;
     }
-    Answer::Served
+    Ok(())
 }
 
 // Map block t of a header, deciphered, and its first entries into the tables, from index n on.
@@ -49,7 +44,7 @@ fn load_block(
     counts: &[usize],
     n: usize,
     count: usize,
-) -> Answer
+) -> Result<(), Refusal>
     requires { Allowed g × (length key.now ≡ 32) × (length maps.old ≡ 15 * length owners.old) × (length owners.old ≤ 4096) ×
         (length counts.now ≡ 15) × (n + count ≤ length maps.old) × (count ≤ per_block g)
         × (t < map_blocks g) × (g.b * (1 + map_blocks g) ≤ length header.now) }
@@ -58,20 +53,13 @@ fn load_block(
         (part (g.b * (1 + t) + 16) (g.b - 16) header.now)))
         count n maps.old owners.old) (answer_number result) maps.new owners.new }
 {
-    let mut text = [0u8; 4096];
-    let len = g.b - 16;
+    let mut block = [0u8; 4096];
+    let text = &mut block[..g.b - 16];
     let from = g.b * (1 + t);
     let at = from + 16;
     let end = from + g.b;
-    ctr::ctr_into(key, &header[from..at], &header[at..end], &mut text[..len]);
-    load_entries(maps, owners, counts, &text[..len], n, count)
-}
-
-// The smaller of two numbers.
-fn least(a: usize, b: usize) -> usize
-    ensures { (result ≤ a) × (result ≤ b) × (result < a → result ≡ b) × (1 ≤ a → 1 ≤ b → 1 ≤ result) }
-{
-    if a < b { a } else { b }
+    ctr::ctr_into(key, &header[from..at], &header[at..end], text);
+    load_entries(maps, owners, counts, text, n, count)
 }
 
 // The map blocks of a volume, from the part of the device that starts at its header, into the tables.
@@ -83,7 +71,7 @@ fn load_volume(
     maps: &mut [u32],
     owners: &mut [u8],
     counts: &[usize],
-) -> Answer
+) -> Result<(), Refusal>
     requires { Allowed g × (length key.now ≡ 32) × (length maps.old ≡ 15 * g.p) × (length owners.old ≡ g.p) × (length counts.now ≡ 15) ×
         (volume ≤ 14) × (g.b * (1 + map_blocks g) ≤ length header.now) }
     ensures { Settled (load g.p counts.now (λ n. stored_entry g key.now header.now (n % g.p)) g.p (volume * g.p)
@@ -92,18 +80,12 @@ fn load_volume(
     let p = g.p;
     let c = places::entries_per_block(g);
     let start = volume * p;
-    let mut t = 0;
-    let mut done = 0;
-    while done < p {
-        let count = least(p - done, c);
-        let bad = load_block(header, g, key, t, maps, owners, counts, start + done, count);
-        if let Answer::Refused(_) = bad {
-            return bad;
-        }
-        t += 1;
-        done += count;
+    for t in 0..places::map_blocks(g) {
+        let done = t * c;
+        let count = c.min(p - done);
+        load_block(header, g, key, t, maps, owners, counts, start + done, count)?;
     }
-    Answer::Served
+    Ok(())
 }
 
 // The maps of volumes 0 to k, each read from the part of the device that starts at its own header.
@@ -115,21 +97,16 @@ pub fn load_maps(
     k: usize,
     maps: &mut [u32],
     owners: &mut [u8],
-) -> Answer
+) -> Result<(), Refusal>
     requires { Allowed g × (length device.now ≡ device_length g) × (length maps.old ≡ 15 * g.p) × (length owners.old ≡ g.p) × (k ≤ 14) ×
         (length keys.now ≡ 480) × (length counts.now ≡ 15) }
     ensures { Settled (load g.p counts.now (map_entries g (header_of g device.now) keys.now) ((k + 1) * g.p) 0
         maps.old owners.old) (answer_number result) maps.new owners.new }
 {
-    let mut v = 0;
-    while v < k + 1 {
+    for v in 0..k + 1 {
         let start = places::header_start(g, v);
         let key = places::key_in(keys, v);
-        let bad = load_volume(&device[start..], g, key, v, maps, owners, counts);
-        if let Answer::Refused(_) = bad {
-            return bad;
-        }
-        v += 1;
+        load_volume(&device[start..], g, key, v, maps, owners, counts)?;
     }
-    Answer::Served
+    Ok(())
 }
