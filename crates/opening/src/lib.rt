@@ -4,16 +4,14 @@
 // the rest of the master block and of a header's first block are never read.
 #![tactic(auto)]
 
-ghost use Rattle.std.specs.Prelude.{◌≡◌, ◌≤◌, length};
+ghost use Rattle.std.specs.Prelude.{◌≡◌, ◌≤◌, Err, length};
 ghost use Rattle.refusals.specs.Numbers.{answer_number};
 ghost use Rattle.model.specs.Geometry.{Allowed, device_length, cell_of, header_of};
-ghost use Rattle.model.specs.Session.{no_keys, no_counts};
 ghost use Rattle.model.specs.Opening.{first_cell, no_maps, no_owners, open_refusal, no_session, load_maps, with_tables, with_cell, open_model};
 ghost use Rattle.model.specs.Answers.{open_result, OpenLeaves};
 
-use model::{Geometry, OpenAnswer, Opening, Session};
-use refusals::{Answer, Refusal};
-use sealing::Found;
+use model::{Geometry, Opening, Session};
+use refusals::Refusal;
 
 // 1 to 5, from the lengths of device, key and tables, and the permutation.
 fn open_refusal(
@@ -23,64 +21,45 @@ fn open_refusal(
     maps: usize,
     owners: usize,
     perm: &[u32],
-) -> Answer
+) -> Result<(), Refusal>
     ensures { answer_number result ≡ open_refusal g device key maps owners perm.now }
 {
-    let bad = places::check_geometry(Refusal::BadGeometry, g);
-    if let Answer::Refused(_) = bad {
-        return bad;
-    }
+    places::check_geometry(Refusal::BadGeometry, g)?;
     if device != places::device_length(g) {
-        return Answer::Refused(Refusal::DeviceLength);
+        return Err(Refusal::DeviceLength);
     }
     if key != 32 {
-        return Answer::Refused(Refusal::KeyLength);
+        return Err(Refusal::KeyLength);
     }
     if maps != 15 * g.p {
-        return Answer::Refused(Refusal::TableLength);
+        return Err(Refusal::TableLength);
     }
     if owners != g.p {
-        return Answer::Refused(Refusal::TableLength);
+        return Err(Refusal::TableLength);
     }
     tables::check_permutation(perm, g.p)
-}
-
-// No data key.
-fn no_keys() -> [u8; 480]
-    ensures { result ≡ no_keys }
-{
-    [0u8; 480]
-}
-
-// No count.
-fn no_counts() -> [usize; 15]
-    ensures { result ≡ no_counts }
-{
-    [0usize; 15]
 }
 
 // The session of a refused opening: closed, its numbers and keys 0.
 fn no_session() -> Session
     ensures { result ≡ no_session }
 {
-    let none = no_keys();
-    let zeros = no_counts();
     Session {
         geometry: Geometry { b: 0, s: 0, p: 0 },
         k: 0,
-        keys: none,
+        keys: [0u8; 480],
         opened: false,
         start: 0,
-        counts: zeros,
+        counts: [0usize; 15],
     }
 }
 
 // A refused opening.
 fn refused(refusal: Refusal) -> Opening
-    ensures { (result.answer ≡ OpenAnswer.Refused refusal) × (result.session ≡ no_session) }
+    ensures { (result.answer ≡ Err refusal) × (result.session ≡ no_session) }
 {
     Opening {
-        answer: OpenAnswer::Refused(refusal),
+        answer: Err(refusal),
         session: no_session(),
     }
 }
@@ -100,22 +79,21 @@ fn open_maps(
     ensures { OpenLeaves (with_tables g perm.now k keys counts (load_maps g (header_of g device.now) keys counts k))
         (open_result result.answer) maps.new owners.new result.session }
 {
-    let bad = loading::load_maps(device, g, &keys, &counts, k, maps, owners);
-    if let Answer::Refused(r) = bad {
+    if let Err(r) = loading::load_maps(device, g, &keys, &counts, k, maps, owners) {
         tables::unmap(maps);
         places::clear(owners);
         return refused(r);
     }
     let first = tables::start_place(owners, perm);
     Opening {
-        answer: OpenAnswer::Opened(k),
+        answer: Ok(k),
         session: Session {
             geometry: g,
-            k: k,
-            keys: keys,
+            k,
+            keys,
             opened: true,
             start: first,
-            counts: counts,
+            counts,
         },
     }
 }
@@ -135,14 +113,12 @@ fn open_volumes(
         (open_result result.answer) maps.new owners.new result.session }
 {
     let mut vmk = [0u8; 32];
-    let found = sealing::first_cell(device, key, 15, &mut vmk);
-    match found {
-        Found::Nothing => refused(Refusal::NoCell),
-        Found::At(k) => {
-            let mut keys = no_keys();
-            let mut counts = no_counts();
-            let bad = chaining::open_chain(device, g, k, &mut vmk, &mut keys, &mut counts);
-            if let Answer::Refused(r) = bad {
+    match sealing::first_cell(device, key, 15, &mut vmk) {
+        None => refused(Refusal::NoCell),
+        Some(k) => {
+            let mut keys = [0u8; 480];
+            let mut counts = [0usize; 15];
+            if let Err(r) = chaining::open_chain(device, g, k, &mut vmk, &mut keys, &mut counts) {
                 return refused(r);
             }
             open_maps(device, g, k, keys, counts, maps, owners, perm)
@@ -162,8 +138,7 @@ pub fn open(
     ensures { OpenLeaves (open_model device.now g key.now maps.old owners.old perm.now)
         (open_result result.answer) maps.new owners.new result.session }
 {
-    let bad = open_refusal(g, device.len(), key.len(), maps.len(), owners.len(), perm);
-    if let Answer::Refused(r) = bad {
+    if let Err(r) = open_refusal(g, device.len(), key.len(), maps.len(), owners.len(), perm) {
         return refused(r);
     }
     tables::unmap(maps);

@@ -1,8 +1,0 @@
--- `opening::no_keys` meets its contract. Assumes nothing.
-use mathlib.Core.Path.{refl}
-use Rattle.model.specs.Session.{no_keys}
-use Rattle.opening.proofs.no_keys.Goals as goal
-
-pub returns : goal.returns
-unfolding no_keys
-returns c = refl
