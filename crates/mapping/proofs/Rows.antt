@@ -1,6 +1,6 @@
 -- Laws of the map blocks of a row: one entry or block more, and those of the model. Assumes nothing.
-use Prim.Native.Nat.{ℕ, ◌+◌, ◌-◌, ◌*◌, ◌≤◌, ◌<◌}
-use mathlib.Core.Path.{◌≡◌, sym, ap, ap₂, ◌∙◌}
+use Prim.Native.Nat.{ℕ, ◌+◌, ◌-◌, ◌*◌, ◌/◌, ◌^◌, ◌≤◌, ◌<◌}
+use mathlib.Core.Path.{◌≡◌, refl, sym, ap, ap₂, subst, ◌∙◌}
 use mathlib.Core.List.{List, [], ◌++◌}
 use native.Mathlib.Nat.{zero-add}
 use native.Mathlib.Omega.{arith}
@@ -10,14 +10,44 @@ use Rattle.ctr_spec.specs.CounterMode.{ctr}
 use Rattle.ctr_spec.proofs.Stream.{ctr_length}
 use Rattle.model.specs.declared.Geometry.{Geometry}
 use Rattle.model.specs.Parts.{part, overlay, joined}
-use Rattle.model.specs.Geometry.{Allowed, per_block, map_blocks}
+use Rattle.model.specs.Geometry.{Allowed, per_block, map_blocks, device_length, map_start}
 use Rattle.model.specs.Opening.{no_maps}
 use Rattle.model.specs.Maps.{map_block, map_bytes}
 use Rattle.model.proofs.Parts.{part_length, joined_length, joined_ext}
-use Rattle.model.proofs.Bounds.{b_bounds, entries_fill}
+use Rattle.model.proofs.Bounds.{b_bounds, entries_fill, entries_small, map_block_of_lem, map_fits, device_length_small}
 use Rattle.model.proofs.MapBlocks.{map_block_row, map_text_marks}
 use Rattle.places.proofs.Parts.{overlay_joined, overlay_all}
 use Rattle.mapping.specs.Rows.{row_entry, row_text, row_block, row_bytes}
+
+-- ---- places
+
+-- The entries before those of a map block are few.
+pub entries_few : (g : Geometry) → Allowed g → (t : ℕ) → t < map_blocks g → {n : ℕ} → n ≡ per_block g → (n ≤ 1020) × (t * n ≤ 17 * 1020)
+entries_few g ok t l {n} e =
+    (omega (arith, b_bounds g ok, e), subst (λ (m : ℕ). t * m ≤ 17 * 1020) (sym e) (entries_small g ok t l))
+
+-- Map block t of a volume lies on the device.
+pub record MapLies (g : Geometry) (t start long : ℕ) : Type 0 where
+  pub inside : t < map_blocks g
+  pub end : start + t * g.b + g.b ≤ long
+  pub small : long < 2 ^ 63
+
+pub map_lies : (g : Geometry) → Allowed g → (volume t : ℕ) → volume ≤ 14 → {start long m : ℕ} → start ≡ map_start g volume → long ≡ device_length g
+    → m ≡ map_blocks g → t < m → MapLies g t start long
+map_lies g ok volume t v es el em l =
+    let inside : t < map_blocks g = omega (arith, em) in
+    record {
+      inside = inside;
+      end = omega (arith, map_fits g ok volume t v inside, es, el);
+      small = omega (arith, device_length_small g ok, el);
+    }
+
+-- So does the one that has the entry of a logical slice.
+pub block_lies : (g : Geometry) → Allowed g → (volume logical : ℕ) → volume ≤ 14 → logical < g.p → {n start long : ℕ} → n ≡ per_block g
+    → start ≡ map_start g volume → long ≡ device_length g → MapLies g (logical / n) start long
+block_lies g ok volume logical v l {n} e es el =
+    let t_lt : logical / n < map_blocks g = subst (λ (k : ℕ). logical / k < map_blocks g) (sym e) (map_block_of_lem g ok logical l) in
+    map_lies g ok volume (logical / n) v es el refl t_lt
 
 -- ---- the entries of a map block
 

@@ -17,10 +17,8 @@ use model::Geometry;
 fn entry_in(row: &[u32], slice: usize) -> usize
     ensures { result ≡ get_or row.now slice unmapped }
 {
-    if slice < row.len() {
-        return row[slice] as usize;
-    }
-    tables::UNMAPPED
+    row.get(slice)
+        .map_or(tables::UNMAPPED, |&entry| entry as usize)
 }
 
 // The entries of map block t as bytes.
@@ -29,11 +27,9 @@ fn map_text(row: &[u32], g: Geometry, t: usize, buf: &mut [u8])
     ensures { buf.new ≡ row_text row.now g t }
 {
     let n = places::entries_per_block(g);
-    let mut e = 0;
-    while e < n {
+    for e in 0..n {
         let entry = entry_in(row, t * n + e);
         places::put_number(buf, e * 4, entry);
-        e += 1;
     }
 }
 
@@ -95,12 +91,10 @@ pub fn store_maps(
     let m = places::map_blocks(g);
     let b = g.b;
     let start = places::map_start(g, volume);
-    let mut t = 0;
-    while t < m {
+    for t in 0..m {
         let from = position + 16 * t;
         let to = from + 16;
         store_map(device, start + t * b, row, g, key, &tape[from..to], t);
-        t += 1;
     }
 }
 
