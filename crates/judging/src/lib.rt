@@ -15,6 +15,7 @@ use model::Session;
 use refusals::Refusal;
 
 // 9, 25 and 21, of a logical slice that may be asked for.
+#[tactic(auto, using(std::proofs::lemmas::Bool::Decides::nat_tests, model::proofs::Bounds::slot_lt), unfolding(refusals::specs::Numbers::refuse))]
 fn check_slice(
     maps: &[u32],
     tape: usize,
@@ -40,6 +41,7 @@ fn check_slice(
 }
 
 // All refusals of a release.
+#[tactic(auto, using(std::proofs::lemmas::Bool::Decides::nat_tests, model::proofs::Requests::standing_none, model::proofs::Requests::standing_stands), unfolding(model::specs::Release::release_refusal, refusals::specs::Numbers::refuse))]
 pub fn release_refusal(
     device: usize,
     maps: &[u32],
@@ -58,8 +60,7 @@ pub fn release_refusal(
     let g = session.geometry;
     tables::check_permutation(perm, g.p)?;
     requests::check_volume(session.k, volume)?;
-    let counts = session.counts;
-    if counts[volume] <= logical {
+    if session.counts[volume] <= logical {
         return Err(Refusal::AddressAbove);
     }
     check_slice(maps, tape, position, session, volume, logical)
