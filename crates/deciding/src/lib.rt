@@ -25,6 +25,7 @@ pub enum Decision {
 }
 
 // All refusals of a write before its map block, its search and its tape.
+#[tactic(auto, using(std::proofs::lemmas::Bool::Decides::nat_tests, model::proofs::Requests::standing_none, model::proofs::Requests::standing_stands), unfolding(model::specs::Write::write_refusal, refusals::specs::Numbers::refuse))]
 fn write_refusal(
     device: usize,
     maps: &[u32],
@@ -63,6 +64,7 @@ pub fn claim_need(g: Geometry) -> usize
 
 // The decision on a write of len bytes to a device of so many bytes, with a tape of so many bytes and its position. What
 // it says holds of the model's write for every text and every tape of these lengths.
+#[tactic(auto, using(std::proofs::lemmas::Bool::Decides::nat_tests, model::proofs::Requests::write_refusal_none, model::proofs::Requests::asked_slice, model::proofs::Bounds::b_bounds, crate::proofs::Outcomes::rewrite_short, crate::proofs::Outcomes::claim_block, crate::proofs::Outcomes::claim_bad, crate::proofs::Outcomes::bad_place, crate::proofs::Outcomes::claim_full, crate::proofs::Outcomes::free_place, crate::proofs::Outcomes::claim_short))]
 pub fn decide(
     device: usize,
     maps: &[u32],
@@ -78,7 +80,7 @@ pub fn decide(
     ensures { (text bytes : List ℕ) → length text ≡ len → length bytes ≡ tape
         → Decided device (held maps.now owners.now position session) volume address text perm.now bytes result }
 {
-    let bad = write_refusal(
+    if let Err(refusal) = write_refusal(
         device,
         maps,
         owners,
@@ -87,12 +89,8 @@ pub fn decide(
         address,
         len,
         perm.len(),
-    );
-    if let Err(r) = bad {
-        return Decision::Refused {
-            refusal: r,
-            probes: 0,
-        };
+    ) {
+        return Decision::Refused { refusal, probes: 0 };
     }
     let g = session.geometry;
     let logical = address / g.s;
@@ -112,8 +110,7 @@ pub fn decide(
             probes: 0,
         };
     }
-    let found = tables::first_free(owners, perm, session.start);
-    match found {
+    match tables::first_free(owners, perm, session.start) {
         Search::Bad(place) => Decision::Refused {
             refusal: Refusal::BadPermutation,
             probes: probes_to(session, place),
@@ -126,10 +123,7 @@ pub fn decide(
                     probes: probes_to(session, place),
                 };
             }
-            Decision::Claim {
-                slice: slice,
-                place: place,
-            }
+            Decision::Claim { slice, place }
         }
     }
 }
@@ -139,22 +133,9 @@ pub fn need(decision: Decision, session: Session) -> usize
     requires { Sized session decision }
     ensures { result ≡ needed session decision }
 {
-    let g = session.geometry;
     match decision {
-        Decision::Refused {
-            refusal: _,
-            probes: _,
-        } => {
-            return 0;
-        }
-        Decision::Full => {
-            return 0;
-        }
-        Decision::Rewrite(_) => {
-            return 16;
-        }
-        Decision::Claim { slice: _, place: _ } => {
-            return claim_need(g);
-        }
+        Decision::Refused { .. } | Decision::Full => 0,
+        Decision::Rewrite(_) => 16,
+        Decision::Claim { .. } => claim_need(session.geometry),
     }
 }
