@@ -38,11 +38,7 @@ fn block_end(n: usize, i: usize, len: usize) -> usize
     requires { (i < len) × (n + len < 2 ^ 63) }
     ensures { (i < result) × (result ≤ len) × (n + result ≤ (n + i) / 16 * 16 + 16) }
 {
-    let end = i + (16 - (n + i) % 16);
-    if end > len {
-        return len;
-    }
-    end
+    (i + (16 - (n + i) % 16)).min(len)
 }
 
 // Counter mode over round keys, from the counter block iv, of a text that begins at byte n of a longer one.
@@ -60,14 +56,15 @@ pub fn apply_keystream(
     ensures { out.new ≡ ctr_over keys (block_number iv) n text.now }
 {
     let mut i = 0;
+    // A while: the first and the last part may be shorter than a block.
     while i < text.len() {
         let s = output_block(t, keys, iv, (n + i) / 16);
         let end = block_end(n, i, text.len());
-        while i < end {
-            let r = (n + i) % 16;
-            out[i] = text[i] ^ s[r];
-            i += 1;
+        for j in i..end {
+            let r = (n + j) % 16;
+            out[j] = text[j] ^ s[r];
         }
+        i = end;
     }
 }
 
@@ -83,17 +80,6 @@ fn table_from_into(key: &[u8], iv: &[u8], n: usize, text: &[u8], out: &mut [u8])
     let keys = aes::round_keys(&t, key);
     let c = block::load_block(iv, 0);
     apply_keystream(&t, keys, c, n, text, out);
-}
-
-// The lesser of two numbers, neither of them 0; what is promised is that it is above 0 and at most either.
-fn least(a: usize, b: usize) -> usize
-    requires { (0 < a) × (0 < b) }
-    ensures { (0 < result) × (result ≤ a) × (result ≤ b) }
-{
-    if a < b {
-        return a;
-    }
-    b
 }
 
 // The sums of the k bytes of text from place at on and of the bytes of buf from place off on, into out.
@@ -126,12 +112,13 @@ fn planes_from_into(key: &[u8], iv: &[u8], n: usize, text: &[u8], out: &mut [u8]
     let c = block::load_block(iv, 0);
     let mut buf = [0u8; BUFFER_BYTES];
     let mut at = 0;
+    // A while: the first and the last part may be shorter than the others.
     while at < text.len() {
         let left = text.len() - at;
         let off = (n + at) % 16;
-        let lanes = least((off + left + 255) / 256, 16);
+        let lanes = ((off + left + 255) / 256).min(16);
         keystream::output_blocks(&mut s, lanes, &keys, c, (n + at) / 16, &mut buf);
-        let k = least(left, 256 * lanes - off);
+        let k = left.min(256 * lanes - off);
         add_stream(&buf, off, at, k, text, out);
         at += k;
     }
