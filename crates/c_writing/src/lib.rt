@@ -51,9 +51,8 @@ pub extern "C" fn hiwalgam_write(
     let w = lending::write_at(
         device, maps, owners, perm, tape, position, s, volume, address, text,
     );
-    let answer = w.answer;
-    replies::put_written(written, answer);
-    let number = replies::write_number(answer);
+    replies::put_written(written, w.answer);
+    let number = replies::write_number(w.answer);
     records::hand_back(session, w.session, number);
     number
 }
