@@ -4,12 +4,16 @@ use mathlib.Core.Path.{◌≡◌, refl, ap, ◌∙◌}
 use mathlib.Core.List.{List}
 use lib.ListN.{length}
 use borrow.Author.Tests.{eq-eqb, ne_eqb}
+use Rattle.std.specs.Prelude.{Result}
+use Rattle.refusals.specs.Numbers.{answer_number}
+use Rattle.refusals.specs.declared.Refusal.{Refusal}
 use Rattle.model.specs.declared.Session.{Session}
 use Rattle.model.specs.Session.{Outcome}
 use Rattle.model.specs.Release.{ReleaseResult}
-use Rattle.model.specs.Answers.{Leaves}
+use Rattle.model.specs.Answers.{release_result, Leaves}
 use Rattle.records.specs.Structs.{session_bytes, handed_back}
 use Rattle.replies.specs.Answers.{release_number, freed_slice}
+use Rattle.replies.proofs.Answers.{release_number_answer}
 use Rattle.c_releasing.specs.Handed.{ReleaseHanded}
 
 module _ {session₀ device₀ maps₀ owners₀ : List ℕ} {position₀ slice₀ : ℕ} {o : Outcome ReleaseResult} where
@@ -27,14 +31,14 @@ module _ {session₀ device₀ maps₀ owners₀ : List ℕ} {position₀ slice�
         handed = refl;
       }
 
-  pub release_sized : {a : ReleaseResult} {device maps owners session : List ℕ} {position slice number : ℕ} {s : Session}
-      → length session₀ ≡ 648 → Leaves ReleaseResult o device₀ a device maps owners position s → number ≡ release_number a
-      → slice ≡ freed_slice a slice₀ → session ≡ handed_back number (session_bytes s) session₀
+  pub release_sized : (a : Result ℕ Refusal) {device maps owners session : List ℕ} {position slice number : ℕ} {s : Session}
+      → length session₀ ≡ 648 → Leaves ReleaseResult o device₀ (release_result a) device maps owners position s → number ≡ answer_number a
+      → slice ≡ freed_slice (release_result a) slice₀ → session ≡ handed_back number (session_bytes s) session₀
       → ReleaseHanded session₀ o device₀ maps₀ owners₀ position₀ slice₀ number device maps owners position session slice
-  release_sized {number = number} sized left numbered set back =
+  release_sized a {number = number} sized left numbered set back =
       let e = eq-eqb (length session₀) 648 sized in
       record {
-        number_is = rw e (numbered ∙ ap release_number left.answered);
+        number_is = rw e (numbered ∙ release_number_answer a ∙ ap release_number left.answered);
         freed = rw e (set ∙ ap (λ (a : ReleaseResult). freed_slice a slice₀) left.answered);
         stored = rw e left.stored;
         mapped = rw e left.mapped;

@@ -36,9 +36,8 @@ pub extern "C" fn hiwalgam_release(
     let r = lending::release_at(
         device, maps, owners, perm, tape, position, s, volume, logical,
     );
-    let answer = r.answer;
-    replies::put_freed(slice, answer);
-    let number = replies::release_number(answer);
+    replies::put_freed(slice, r.answer);
+    let number = refusals::answer_number(r.answer);
     records::hand_back(session, r.session, number);
     number
 }
