@@ -32,8 +32,7 @@ pub extern "C" fn hiwalgam_open(
     let g = records::geometry_in(geometry);
     let o = opening::open(device, g, key, maps, owners, perm);
     records::put_session(session, o.session);
-    let answer = o.answer;
-    replies::open_number(answer)
+    refusals::answer_number(o.answer)
 }
 
 // What the contract fixes: nothing runs, and the check has to prove it.
