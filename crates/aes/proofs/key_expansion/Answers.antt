@@ -1,9 +1,7 @@
 -- `aes::key_expansion` meets its contract. Before turn i the first 4i bytes are the schedule's. Assumes nothing.
 use mathlib.Core.Path.{refl}
 use native.Mathlib.Omega.{arith}
-use borrow.Author.Rules.{rules}
-use lib.ListN.{replicate}
-use Rattle.std.proofs.lemmas.Slice.{overwrites}
+use lib.ListN.{replicate, length-set}
 use Rattle.aes.proofs.Schedule.{key_stored, schedule_more, schedule_done}
 use Rattle.aes.proofs.key_expansion.Goals as goal
 
@@ -12,11 +10,10 @@ loop-i-init c = key_stored _ _ (replicate 240 0) c.requires.key_len refl c.copy_
 
 pub loop-i-preserved : goal.loop-i-preserved
 loop-i-preserved c =
-    let l = c.loop-i in (
-      search (rules, overwrites),
-      schedule_more _ l.w _ _ l.i _ (omega arith) (omega arith) l.invariant.0 l.invariant.1 c.next_word-a.ensures
-          c.copy_from_slice-in-loop-i.ensures.after,
-    )
+    let l = c.loop-i in
+    let r = c.next_word-a in
+    let more = schedule_more _ l.w r.result l.i (omega arith) (omega arith) l.invariant.0 l.invariant.1 r.ensures in
+    (simp length-set l.invariant.0, more)
 
 pub returns : goal.returns
 returns c =
