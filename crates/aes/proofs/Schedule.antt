@@ -2,10 +2,9 @@
 use mathlib.Core.Path.{◌≡◌, ◌∙◌, ap, ap₂, sym}
 use mathlib.Core.List.{List, [], ◌∷◌, ◌++◌}
 use Prim.Native.Nat.{ℕ, zero, suc, ◌+◌, ◌*◌, ◌-◌, ◌≤◌, ◌<◌}
-use native.Mathlib.Numerals.{add-one}
 use native.Mathlib.Omega.{arith}
-use lib.ListN.{length, get_or, take, drop, set, length-append}
-use lib.Seq.{take_all, take-suc, take-suc-set, take_at, get_or-take, length-take-le, sets-eq}
+use lib.ListN.{length, get_or, take, drop, set, length-append, length-drop}
+use lib.Seq.{take_all, take_at, get_or-take, length-take-le, sets-eq}
 use Rattle.rounds.specs.State.{add_word}
 use Rattle.aes.specs.KeyExpansion.{word_at, changed_word, next_word, schedule, key_expansion}
 use Rattle.rounds.proofs.Words.{four_equal}
@@ -42,19 +41,14 @@ take_stored w j a b c d h =
     (ap (take (j + 4)) (sets-eq word w j h)
     ∙ take_at (take j w ++ word) (drop (j + 4) w) (j + 4) (omega (arith, length-append (take j w) word)))
 
--- A turn of the first loop: one byte more of the key.
-pub key_more : (key w : List ℕ) (i : ℕ) → i < length key → i < length w → take i w ≡ take i key
-    → take (i + 1) (set w i (get_or key i 0)) ≡ take (i + 1) key
-key_more key w i h k e = rw (add-one, take-suc-set w i (get_or key i 0), take-suc key i 0, e)
-
--- After the first loop the array begins with the key.
-pub key_done : (key w : List ℕ) (i : ℕ) → length key ≡ 32 → i ≤ 32 → 32 ≤ i → take i w ≡ take i key → take 32 w ≡ schedule key 0
+-- After the key's bytes are stored the array begins with the schedule's first words.
+pub key_stored : (key stored w : List ℕ) → length key ≡ 32 → length w ≡ 240 → stored ≡ key
+    → (length (stored ++ drop 32 w) ≡ 240) × (take 32 (stored ++ drop 32 w) ≡ schedule key 0)
 unfolding schedule
-key_done key w i h k l e =
-    let m : i ≡ 32 = omega arith in
-    (rw m at e) ∙ take_all 32 key (omega arith)
+key_stored key stored w h l e =
+    (rw e (omega (arith, length-append key (drop 32 w), length-drop 32 w)), rw e (take_at key (drop 32 w) 32 h))
 
--- A turn of the second loop: one word more of the schedule.
+-- A turn of the loop: one word more of the schedule.
 pub schedule_more : (key w a : List ℕ) (i : ℕ) → 8 ≤ i → i < 60 → length w ≡ 240 → take (4 * i) w ≡ schedule key (i - 8) → a ≡ next_word w i
     → take (4 * (i + 1))
     (set (set (set (set w (4 * i) (get_or a 0 0)) (4 * i + 1) (get_or a 1 0)) (4 * i + 2) (get_or a 2 0)) (4 * i + 3) (get_or a 3 0))
@@ -66,7 +60,7 @@ schedule_more key w a i h k l e f =
     let p : 4 * (i + 1) ≡ 4 * i + 4 = omega arith in
     rw (p, take_stored w (4 * i) (get_or a 0 0) (get_or a 1 0) (get_or a 2 0) (get_or a 3 0) (omega arith), m, n, e, f, next-take w i h, e)
 
--- After the second loop the array is the schedule.
+-- After the loop the array is the schedule.
 pub schedule_done : (key w : List ℕ) (i : ℕ) → i ≤ 60 → 60 ≤ i → length w ≡ 240 → take (4 * i) w ≡ schedule key (i - 8) → w ≡ key_expansion key
 unfolding key_expansion
 schedule_done key w i h k l e =

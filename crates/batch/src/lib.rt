@@ -4,43 +4,9 @@
 #![tactic(auto)]
 
 ghost use Rattle.std.specs.Prelude.{◌≡◌, ◌≤◌};
-ghost use Rattle.lanes.specs.Lanes.{each_lane};
 ghost use Rattle.planes.specs.Rounds.{added_lane, mixed_lane, moved_lane};
 ghost use Rattle.batch.specs.Batch.{encrypt_lanes};
 ghost use Rattle.batch.specs.Theorems.{BatchLaws};
-
-// The first ADDROUNDKEY of n lanes, with the round key k in every block.
-fn first(s: &mut [u64; 512], n: usize, k: &[u64; 32])
-    requires { n ≤ 16 }
-    ensures { s.new ≡ each_lane (added_lane k.now) n s.old }
-{
-    for j in 0..n {
-        let y = planes::added(lanes::get_lane(s, j), k);
-        lanes::put_lane(s, j, y);
-    }
-}
-
-// SHIFTROWS, MIXCOLUMNS and ADDROUNDKEY of n lanes, with the round key k in every block.
-fn linear(s: &mut [u64; 512], n: usize, k: &[u64; 32])
-    requires { n ≤ 16 }
-    ensures { s.new ≡ each_lane (mixed_lane k.now) n s.old }
-{
-    for j in 0..n {
-        let y = planes::mixed(lanes::get_lane(s, j), k);
-        lanes::put_lane(s, j, y);
-    }
-}
-
-// SHIFTROWS and the last ADDROUNDKEY of n lanes, with the round key k in every block.
-fn last(s: &mut [u64; 512], n: usize, k: &[u64; 32])
-    requires { n ≤ 16 }
-    ensures { s.new ≡ each_lane (moved_lane k.now) n s.old }
-{
-    for j in 0..n {
-        let y = planes::moved(lanes::get_lane(s, j), k);
-        lanes::put_lane(s, j, y);
-    }
-}
 
 // CIPHER of the blocks of n lanes, from words of blocks to words of blocks, under the round keys in the lane k.
 pub fn encrypt(s: &mut [u64; 512], n: usize, k: &[u64; 32])
@@ -49,15 +15,33 @@ pub fn encrypt(s: &mut [u64; 512], n: usize, k: &[u64; 32])
 {
     lanes::transpose(s, n);
     let a = planes::round_key(k, 0);
-    first(s, n, &a);
+    lanes::each_lane(
+        s,
+        n,
+        |x: [u64; 32]| -> [u64; 32]
+            ensures { result ≡ added_lane a x }
+        { planes::added(x, &a) },
+    );
     for round in 1..14 {
         lanes::sub_rows(s, 4, n);
         let b = planes::round_key(k, round);
-        linear(s, n, &b);
+        lanes::each_lane(
+            s,
+            n,
+            |x: [u64; 32]| -> [u64; 32]
+                ensures { result ≡ mixed_lane b x }
+            { planes::mixed(x, &b) },
+        );
     }
     lanes::sub_rows(s, 4, n);
     let c = planes::round_key(k, 14);
-    last(s, n, &c);
+    lanes::each_lane(
+        s,
+        n,
+        |x: [u64; 32]| -> [u64; 32]
+            ensures { result ≡ moved_lane c x }
+        { planes::moved(x, &c) },
+    );
     lanes::transpose(s, n);
 }
 

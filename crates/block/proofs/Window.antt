@@ -1,7 +1,9 @@
 -- Laws of the bytes read from a place on. Assumes nothing.
-use Rattle.std.proofs.Common.{◌≡◌, ℕ, zero, suc, ◌+◌, ◌*◌, ◌^◌, ◌<◌, ◌≤◌, List, [], ◌∷◌, ◌++◌, length, get_or, take, drop, sym, refl, ap, ◌∙◌, subst, ap₂, lt_of_lt_of_le, zero-lt-suc, pow-suc, add-one, arith, drop-cons}
+use Rattle.std.proofs.Common.{◌≡◌, ℕ, zero, suc, ◌+◌, ◌*◌, ◌^◌, ◌<◌, ◌≤◌, List, ◌∷◌, ◌++◌, length, get_or, take, drop, sym, refl, ap, ◌∙◌, subst, ap₂, lt_of_lt_of_le, zero-lt-suc, pow-suc, add-one, arith, drop-cons, add-zero}
 use native.Mathlib.Nat.{pow-le-pow_right}
 use lib.Arith.{digits_lt}
+use mir.Syntax.{w64}
+use Rattle.std.specs.Int.{from_be_bytes}
 use Rattle.block.specs.Bytes.{number_after, number, window}
 use Rattle.block.proofs.Bytes.{number-++, number_after_lem}
 
@@ -37,17 +39,22 @@ unfolding window
 window_same s t at zero h = refl
 window_same s t at (suc n) h = ap₂ (λ (x : ℕ) (l : List ℕ). x ∷ l) (h at) (window_same s t (at + 1) n h)
 
--- One byte more, as a loop reads it.
-pub number-window_suc : (s : List ℕ) (at k x b : ℕ) → x ≡ number (window s at k) → b ≡ get_or s (at + k) 0
-    → x * 256 + b ≡ number (window s at (k + 1))
+-- The number of eight bytes that are those from a place on, one by one.
+pub number_eight : (s bs : List ℕ) (at : ℕ) → get_or bs 0 0 ≡ get_or s (at + 0) 0 → get_or bs 1 0 ≡ get_or s (at + 1) 0
+    → get_or bs 2 0 ≡ get_or s (at + 2) 0 → get_or bs 3 0 ≡ get_or s (at + 3) 0 → get_or bs 4 0 ≡ get_or s (at + 4) 0
+    → get_or bs 5 0 ≡ get_or s (at + 5) 0 → get_or bs 6 0 ≡ get_or s (at + 6) 0 → get_or bs 7 0 ≡ get_or s (at + 7) 0
+    → from_be_bytes w64 bs ≡ number (window s at 8)
 unfolding window number_after
-number-window_suc s at k x b ex eb =
-    sym
-    (ap number (window-++ s at k 1)
-    ∙ number-++ 0 (window s at k) (get_or s (at + k) 0 ∷ [])
-    ∙ ap₂ (λ (p q : ℕ). p * 256 + q) (sym ex) (sym eb))
+number_eight s bs at a b c d e f g h =
+    let p₁ : at + 1 + 1 ≡ at + 2 = omega arith in
+    let p₂ : at + 2 + 1 ≡ at + 3 = omega arith in
+    let p₃ : at + 3 + 1 ≡ at + 4 = omega arith in
+    let p₄ : at + 4 + 1 ≡ at + 5 = omega arith in
+    let p₅ : at + 5 + 1 ≡ at + 6 = omega arith in
+    let p₆ : at + 6 + 1 ≡ at + 7 = omega arith in
+    simp (a, b, c, d, e, f, g, h, add-zero, p₁, p₂, p₃, p₄, p₅, p₆) (omega arith)
 
--- And its bound.
+-- A byte more in a number of k bytes, and what seven of them reach.
 pub bytes-< : (k x b : ℕ) → x < 256 ^ k → b < 256 → x * 256 + b < 256 ^ (k + 1)
 bytes-< k x b h l = subst (λ (n : ℕ). x * 256 + b < n) (sym (ap (λ (n : ℕ). 256 ^ n) (add-one k) ∙ pow-suc 256 k)) (digits_lt h l)
 

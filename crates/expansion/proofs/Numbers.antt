@@ -5,7 +5,8 @@ use Prim.Native.Nat.{ℕ, zero, suc, ◌+◌, ◌*◌, ◌/◌, ◌%◌, ◌^◌
 use native.Mathlib.Omega.{arith}
 use native.Mathlib.Nat.{mod-lt}
 use lib.Pow.{shr-shr, shr_mod, mod-pow-add}
-use lib.Bits.{bit_xor, xor_lt, xor_shr, xor_mod}
+use lib.Bits.{bit_xor, xor_lt, xor_shr, xor_mod, or_shifted}
+use Rattle.std.specs.Int.{w32, from_be_bytes, rotate_left}
 use Rattle.rounds.specs.State.{add_word}
 use Rattle.rounds.proofs.Words.{four_equal}
 use Rattle.aes.specs.KeyExpansion.{rot_word, rcon}
@@ -36,10 +37,11 @@ byte_word a b c d p q r s =
           (omega arith);
     }
 
--- The number of four bytes that are those of a list.
-pub bytes_word : {a b c d a' b' c' d' : ℕ} → (a ≡ a') × (a < 256) → (b ≡ b') × (b < 256) → (c ≡ c') × (c < 256) → (d ≡ d') × (d < 256)
-    → Word (((a * 256 + b) * 256 + c) * 256 + d) (a' ∷ b' ∷ c' ∷ d' ∷ [])
-bytes_word {a} {b} {c} {d} p q r s = rw (← p.0, ← q.0, ← r.0, ← s.0) (byte_word a b c d p.1 q.1 r.1 s.1)
+-- The same, as the library makes the number.
+pub bytes_word : (a b c d : ℕ) → a < 256 → b < 256 → c < 256 → d < 256 → Word (from_be_bytes w32 (a ∷ b ∷ c ∷ d ∷ [])) (a ∷ b ∷ c ∷ d ∷ [])
+bytes_word a b c d p q r s =
+    let e : from_be_bytes w32 (a ∷ b ∷ c ∷ d ∷ []) ≡ ((a * 256 + b) * 256 + c) * 256 + d = omega arith in
+    rw e (byte_word a b c d p q r s)
 
 -- The sum of two words.
 pub sum-word : {m n : ℕ} {a b : List ℕ} → Word m a → Word n b → Word (bit_xor m n) (add_word a b)
@@ -53,17 +55,19 @@ sum-word {m} {n} {a} {b} p q =
     }
 
 -- ROTWORD.
-pub turned_word : (n : ℕ) → n < 2 ^ 32 → Word (n % 2 ^ 24 * 256 + n / 2 ^ 24) (rot_word (word_bytes n))
+pub turned_word : (n : ℕ) → n < 2 ^ 32 → Word (rotate_left w32 n 8) (rot_word (word_bytes n))
 unfolding word_bytes
 turned_word n h =
     let byte : (m : ℕ) → m % 256 < 256 = λ m. mod-lt m (omega arith) in
+    let up : n * 2 ^ 8 % 2 ^ 32 ≡ n % 2 ^ 24 * 2 ^ 8 = omega arith in
+    let low : n / 2 ^ 24 < 2 ^ 8 = omega arith in
     let e : n % 2 ^ 24 * 256 + n / 2 ^ 24
     ≡ ((n / 2 ^ 16 % 256 * 256 + n / 2 ^ 8 % 256) * 256 + n % 256) * 256 + n / 2 ^ 24 % 256 =
     omega (arith, mod-pow-add n 8 16, mod-pow-add n 8 8, shr_mod 8 24 h) in
-    rw e (byte_word _ _ _ _ (byte (n / 2 ^ 16)) (byte (n / 2 ^ 8)) (byte n) (byte (n / 2 ^ 24)))
+    rw (up, or_shifted (n % 2 ^ 24) 8 (n / 2 ^ 24) low, e) (byte_word _ _ _ _ (byte (n / 2 ^ 16)) (byte (n / 2 ^ 8)) (byte n) (byte (n / 2 ^ 24)))
 
 -- The round constants, as code shifts a 1 to its place.
-pub constant-word : (j : ℕ) → 1 ≤ j → j < 8 → Word (1 * 2 ^ (23 + j) % 2 ^ 64) (rcon j)
+pub constant-word : (j : ℕ) → 1 ≤ j → j < 8 → Word (1 * 2 ^ (23 + j) % 2 ^ 32) (rcon j)
 unfolding word_bytes
 constant-word zero h k = absurd (omega arith)
 constant-word (suc zero) h k = record { small = omega arith; bytes = refl }

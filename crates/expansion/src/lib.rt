@@ -3,48 +3,35 @@
 // A word is a number of 32 bits, its first byte the most significant. The S-box is the circuit on bit planes, one word at a time.
 #![tactic(auto)]
 
-ghost use Rattle.std.specs.Prelude.{◌≡◌, ◌^◌, ◌<◌, ◌≤◌, get_or, length};
+ghost use Rattle.std.specs.Prelude.{◌≡◌, ◌<◌, ◌≤◌, length};
 ghost use Rattle.rounds.specs.State.{sub_word};
 ghost use Rattle.aes.specs.KeyExpansion.{word_at, rot_word, changed_word};
 ghost use Rattle.lanes.specs.Lanes.{row_at};
 ghost use Rattle.expansion.specs.Words.{word_bytes, Word, Picked, shifted, low_bytes, Expanded};
 
-// Byte i of a key, as a number.
-fn byte_at(key: &[u8], i: usize) -> u64
-    requires { i < length key.now }
-    ensures { (result ≡ get_or key.now i 0) × (result < 256) }
-{
-    key[i] as u64
-}
-
 // Word i of a key.
-fn load_word(key: &[u8], i: usize) -> u64
+fn load_word(key: &[u8], i: usize) -> u32
     requires key_len { length key.now ≡ 32 }
     requires i_bound { i < 8 }
     ensures { Word result (word_at key.now i) }
 {
     let j = 4 * i;
-    let a = byte_at(key, j);
-    let b = byte_at(key, j + 1);
-    let c = byte_at(key, j + 2);
-    let d = byte_at(key, j + 3);
-    ((a * 256 + b) * 256 + c) * 256 + d
+    u32::from_be_bytes([key[j], key[j + 1], key[j + 2], key[j + 3]])
 }
 
 // ROTWORD.
-fn rot_word(p: u64) -> u64
-    requires { p < 2 ^ 32 }
+fn rot_word(p: u32) -> u32
     ensures { Word result (rot_word (word_bytes p)) }
 {
-    p % 16777216 * 256 + p / 16777216
+    p.rotate_left(8)
 }
 
 // A word into the first row of the first lane, shifted by 0 to 7 places: bit k of each byte is the byte's lowest bit in word k of the
 // row. Stored word by word, so that `lanes` keeps its functions in line.
-fn put_bits(s: &mut [u64], p: u64)
-    requires { length s.old ≡ 512 }
+fn put_bits(s: &mut [u64; 512], p: u32)
     ensures { row_at s.new 0 ≡ shifted p }
 {
+    let p = u64::from(p);
     s[0] = p;
     s[16] = p >> 1;
     s[32] = p >> 2;
@@ -56,14 +43,14 @@ fn put_bits(s: &mut [u64], p: u64)
 }
 
 // The lowest bits of the four lowest bytes of a word.
-fn lowest(x: u64) -> u64
+fn lowest(x: u64) -> u32
     ensures { Picked x result }
 {
-    x & 0x0101_0101
+    (x & 0x0101_0101) as u32
 }
 
 // The word whose bits stand in the first row of the first lane.
-fn get_bits(s: &[u64; 512]) -> u64
+fn get_bits(s: &[u64; 512]) -> u32
     ensures { Word result (low_bytes (row_at s.now 0)) }
 {
     let low = lowest(s[0]) + lowest(s[16]) * 2 + lowest(s[32]) * 4 + lowest(s[48]) * 8;
@@ -71,8 +58,7 @@ fn get_bits(s: &[u64; 512]) -> u64
 }
 
 // SUBWORD: the S-box on the bits of the four bytes.
-fn sub_word(s: &mut [u64; 512], p: u64) -> u64
-    requires { p < 2 ^ 32 }
+fn sub_word(s: &mut [u64; 512], p: u32) -> u32
     ensures { Word result (sub_word (word_bytes p)) }
 {
     put_bits(s, p);
@@ -81,14 +67,13 @@ fn sub_word(s: &mut [u64; 512], p: u64) -> u64
 }
 
 // What is added to w[i - 8], from p = w[i - 1] (Algorithm 2).
-fn changed_word(s: &mut [u64; 512], i: usize, p: u64) -> u64
-    requires le_i { (8 ≤ i) × (i < 60) }
-    requires p_bound { p < 2 ^ 32 }
+fn changed_word(s: &mut [u64; 512], i: usize, p: u32) -> u32
+    requires { (8 ≤ i) × (i < 60) }
     ensures { Word result (changed_word i (word_bytes p)) }
 {
     let m = i % 8;
     if m == 0 {
-        return sub_word(s, rot_word(p)) ^ (1u64 << (23 + i / 8));
+        return sub_word(s, rot_word(p)) ^ (1u32 << (23 + i / 8));
     }
     if m == 4 {
         return sub_word(s, p);
@@ -97,11 +82,11 @@ fn changed_word(s: &mut [u64; 512], i: usize, p: u64) -> u64
 }
 
 // KEYEXPANSION.
-pub fn expand(s: &mut [u64; 512], key: &[u8]) -> [u64; 60]
+pub fn expand(s: &mut [u64; 512], key: &[u8]) -> [u32; 60]
     requires { length key.now ≡ 32 }
     ensures { Expanded key.now result }
 {
-    let mut w = [0u64; 60];
+    let mut w = [0u32; 60];
     for i in 0usize..8 {
         w[i] = load_word(key, i);
     }

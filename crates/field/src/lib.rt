@@ -42,10 +42,11 @@ pub fn sub_byte(t: &[u8; 256], x: u8) -> u8
     requires { IsSbox t.now }
     ensures { result ≡ sbox x }
 {
-    t[x as usize]
+    t[usize::from(x)]
 }
 
 // XTIMES (4.2).
+#[tactic(auto, unfolding(crate::specs::Field::xtimes))]
 pub fn xtime(x: u8) -> u8
     ensures { result ≡ xtimes x }
 {

@@ -1,10 +1,11 @@
 -- Laws of GHASH: padding, blocks that follow one another, and the loop over blocks. Assumes nothing.
-use Rattle.std.proofs.Common.{◌≡◌, ℕ, zero, suc, ◌+◌, ◌-◌, ◌*◌, ◌/◌, ◌%◌, ◌≤◌, List, [], ◌∷◌, ◌++◌, length, get_or, take, drop, replicate, sym, refl, ap, ◌∙◌, ap₂, suc-add, zero-add, arith, length-append, length-drop, drop-drop}
+use Rattle.std.proofs.Common.{◌≡◌, ℕ, zero, suc, ◌+◌, ◌-◌, ◌*◌, ◌/◌, ◌%◌, ◌<◌, ◌≤◌, List, [], ◌∷◌, ◌++◌, length, get_or, take, drop, replicate, sym, refl, ap, ◌∙◌, ap₂, suc-add, zero-add, arith, length-append, length-drop, min, append_assoc}
 use lib.ListN.{length-replicate}
+use Rattle.std.proofs.lemmas.List.{append-nil, take_all}
 use lib.Seq.{take-append-le, drop-append-le}
 use lib.Bits.{bit_xor}
 use Rattle.block.specs.Bytes.{number, window}
-use Rattle.block.proofs.Window.{window_part, window_same}
+use Rattle.block.proofs.Window.{window_part, window_same, window-length}
 use Rattle.ghash.specs.Product.{product}
 use Rattle.ghash.specs.Hash.{hash_blocks, hash_from, pad}
 
@@ -56,14 +57,42 @@ hash_from-++ h y m a b e =
 
 -- ---- the loop
 
--- A turn: the block at a place is absorbed, and one less is left.
-pub hash_blocks_turn : (h m n at : ℕ) (l : List ℕ) (y : ℕ) {x r : ℕ} → m ≡ suc n → x ≡ number (take 16 (drop at l)) → r ≡ product (bit_xor y x) h
-    → hash_blocks h n r (drop (at + 16) l) ≡ hash_blocks h m y (drop at l)
-unfolding hash_blocks
-hash_blocks_turn h m n at l y em ex er =
-    ap₂ (hash_blocks h n) (er ∙ ap (λ (t : ℕ). product (bit_xor y t) h) ex) (sym (drop-drop 16 at l))
-    ∙ ap (λ (k : ℕ). hash_blocks h k y (drop at l)) (sym em)
+-- Padded bytes are the 16 read from their first chunk x, then the padded rest.
+pad-chunk : (x rest : List ℕ) → length x ≡ min 16 (length (x ++ rest)) → 0 < length (x ++ rest) → pad (x ++ rest) ≡ window x 0 16 ++ pad rest
+unfolding pad
+pad-chunk x [] e p =
+    let q = pad-length x in
+    let j = rw append-nil at e in
+    let k = rw append-nil at p in
+    let n : length (pad x) ≡ 16 = omega arith in
+    rw (append-nil x) (sym (take_all 16 (pad x) (omega arith)) ∙ pad-window x 0 16 (omega arith) ∙ sym (append-nil (window x 0 16)))
+pad-chunk x (y ∷ ys) e p =
+    let rest = y ∷ ys in
+    let f : length x ≡ 16 = omega (arith, length-append x rest) in
+    let n : (16 - (length x + length rest) % 16) % 16 ≡ (16 - length rest % 16) % 16 = omega arith in
+    let w : window x 0 16 ≡ x = window_part x 0 16 (omega arith) ∙ take_all 16 x (omega arith) in
+    rw (length-append x rest, n, append_assoc, w)
 
-pub hash_blocks_done : (h m y : ℕ) (l : List ℕ) → m ≡ 0 → y ≡ hash_blocks h m y l
-unfolding hash_blocks
-hash_blocks_done h m y l e = ap (λ (k : ℕ). hash_blocks h k y l) (sym e)
+-- One block.
+hash_from_block : (h y : ℕ) (x : List ℕ) → length x ≡ 16 → hash_from h y x ≡ product (bit_xor y (number x)) h
+unfolding hash_from hash_blocks
+hash_from_block h y x e =
+    let n : length x / 16 ≡ 1 = omega arith in
+    rw (n, take_all 16 x (omega arith))
+
+-- A turn: the first chunk x of l is absorbed, and the rest is left.
+pub hash_from_turn : (h y n : ℕ) (l x rest : List ℕ) {b r : ℕ} → n ≡ 16 → l ≡ x ++ rest → length x ≡ min n (length l) → 0 < length l
+    → b ≡ number (window x 0 16) → r ≡ product (bit_xor y b) h → hash_from h r (pad rest) ≡ hash_from h y (pad l)
+hash_from_turn h y n l x rest en el ex p eb er =
+    let w = window x 0 16 in
+    let k = window-length x 0 16 in
+    let c = pad-chunk x rest (rw (en, el) at ex) (rw el at p) in
+    sym
+    (rw (el, c)
+    (hash_from-++ h y 1 w (pad rest) k
+    ∙ ap (λ (k : ℕ). hash_from h k (pad rest)) (hash_from_block h y w k ∙ rw (er, eb))))
+
+pub hash_from_done : (h y : ℕ) (l : List ℕ) → length l ≡ 0 → y ≡ hash_from h y (pad l)
+unfolding pad hash_from hash_blocks
+hash_from_done h y [] e = refl
+hash_from_done h y (x ∷ l) e = absurd (omega arith)

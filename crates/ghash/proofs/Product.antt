@@ -17,12 +17,6 @@ E1-< = omega arith
 
 -- ---- masks
 
--- What wraps to 0 with a bit is the bit's mask.
-pub mask_wraps : (r b : ℕ) → r < 2 ^ 64 → b < 2 → (r + b) % 2 ^ 64 ≡ 0 → r ≡ b * (2 ^ 64 - 1)
-mask_wraps r zero h k e = omega arith
-mask_wraps r (suc zero) h k e = omega arith
-mask_wraps r (suc (suc b)) h k e = absurd (omega arith)
-
 -- Under the mask of a bit a half is itself or 0.
 mask_and : (a b : ℕ) → a < 2 ^ 64 → b < 2 → bit_and a (b * (2 ^ 64 - 1)) ≡ b * a
 mask_and a zero h k = and_zero_r a ∙ sym (zero-mul a)

@@ -17,7 +17,7 @@ fn mask(b: u64) -> u64
     requires { b < 2 }
     ensures { result ≡ b * (2 ^ 64 - 1) }
 {
-    std::num::wrapping_sub_u64(0, b)
+    b.wrapping_neg()
 }
 
 // V shifted right by one, and folded by E1 where the bit shifted out is 1.
@@ -61,11 +61,9 @@ pub fn multiply(x: Block, y: Block) -> Block
 {
     let mut z = Block { hi: 0, lo: 0 };
     let mut v = y;
-    let mut i: u64 = 0;
-    while i < 128 {
+    for i in 0..128 {
         z = add_if(z, v, bit_at(x, i));
         v = halve(v);
-        i += 1;
     }
     z
 }
@@ -89,10 +87,8 @@ pub fn absorb(h: Block, y: Block, s: &[u8]) -> Block
     ensures { block_number result ≡ hash_from (block_number h) (block_number y) (pad s.now) }
 {
     let mut r = y;
-    let mut at: usize = 0;
-    while at < s.len() {
-        r = absorb_block(h, r, block::load_block(s, at));
-        at += 16;
+    for x in s.chunks(16) {
+        r = absorb_block(h, r, block::load_block(x, 0));
     }
     r
 }

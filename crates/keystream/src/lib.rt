@@ -4,7 +4,7 @@
 // output block after the cipher.
 #![tactic(auto)]
 
-ghost use Rattle.std.specs.Prelude.{◌≡◌, ◌+◌, ◌*◌, ◌%◌, ◌^◌, ◌<◌, ◌≤◌, length};
+ghost use Rattle.std.specs.Prelude.{◌≡◌, ◌+◌, ◌*◌, ◌%◌, ◌^◌, ◌<◌, ◌≤◌};
 ghost use Rattle.block.specs.Number.{block_number};
 ghost use Rattle.keystream.specs.Blocks.{OutputBlocks};
 ghost use Rattle.keystream.specs.Words.{CounterPut, Counters, put_bytes, BlocksOut};
@@ -24,7 +24,7 @@ fn counter(iv: Block, n: usize) -> Block
 
 // The counter block b into words at and at + 256.
 fn put_counter(s: &mut [u64; 512], at: usize, b: Block)
-    requires { (at < 256) × (length s.old ≡ 512) }
+    requires { at < 256 }
     ensures { CounterPut s.old at (block_number b) s.new }
 {
     s[at] = packing::first_word(b);
@@ -33,7 +33,7 @@ fn put_counter(s: &mut [u64; 512], at: usize, b: Block)
 
 // The counter blocks of n lanes, from the block that is `from` after iv on.
 fn counters(s: &mut [u64; 512], n: usize, iv: Block, from: usize)
-    requires { (n ≤ 16) × (from < 2 ^ 63) × (length s.old ≡ 512) }
+    requires { (n ≤ 16) × (from < 2 ^ 63) }
     ensures { Counters (block_number iv + from) n 256 s.new }
 {
     for i in 0usize..16 {
@@ -48,27 +48,12 @@ fn put_block(buf: &mut [u8; BUFFER_BYTES], at: usize, b: [u8; 16])
     requires { at ≤ 4080 }
     ensures { buf.new ≡ put_bytes buf.old at b 16 }
 {
-    buf[at + 0] = b[0];
-    buf[at + 1] = b[1];
-    buf[at + 2] = b[2];
-    buf[at + 3] = b[3];
-    buf[at + 4] = b[4];
-    buf[at + 5] = b[5];
-    buf[at + 6] = b[6];
-    buf[at + 7] = b[7];
-    buf[at + 8] = b[8];
-    buf[at + 9] = b[9];
-    buf[at + 10] = b[10];
-    buf[at + 11] = b[11];
-    buf[at + 12] = b[12];
-    buf[at + 13] = b[13];
-    buf[at + 14] = b[14];
-    buf[at + 15] = b[15];
+    buf[at..at + 16].copy_from_slice(&b);
 }
 
 // The bytes of the blocks of n lanes.
 fn bytes(s: &[u64; 512], n: usize, buf: &mut [u8; BUFFER_BYTES])
-    requires { (n ≤ 16) × (length buf.old ≡ 4104) }
+    requires { n ≤ 16 }
     ensures { BlocksOut s.now (256 * n) buf.new }
 {
     for j in 0..n {
@@ -83,9 +68,6 @@ fn bytes(s: &[u64; 512], n: usize, buf: &mut [u8; BUFFER_BYTES])
     }
 }
 
-// Nothing runs: of an array that is lent as a slice, its length is known.
-fn lengths(s: &[u64], buf: &[u8]) {}
-
 // The 16 * n output blocks of the counter blocks from the block that is `from` after iv on, under the round keys in the lane keys.
 pub fn output_blocks(
     s: &mut [u64; 512],
@@ -98,7 +80,6 @@ pub fn output_blocks(
     requires { (n ≤ 16) × (from < 2 ^ 63) }
     ensures { OutputBlocks keys.now (block_number iv + from) n buf.new }
 {
-    lengths(s, buf);
     counters(s, n, iv, from);
     batch::encrypt(s, n, keys);
     bytes(s, n, buf);

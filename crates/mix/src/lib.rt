@@ -5,23 +5,17 @@ ghost use Rattle.std.specs.Prelude.{◌≡◌};
 ghost use Rattle.mix.specs.Mix.{sum_words, mix_words};
 ghost use Rattle.mix.specs.Theorems.{MixLaws};
 
+use std::array;
+
 // The sum of two rows.
 pub fn sum_row(a: [u64; 8], b: [u64; 8]) -> [u64; 8]
     ensures { result ≡ sum_words a b }
 {
-    [
-        a[0] ^ b[0],
-        a[1] ^ b[1],
-        a[2] ^ b[2],
-        a[3] ^ b[3],
-        a[4] ^ b[4],
-        a[5] ^ b[5],
-        a[6] ^ b[6],
-        a[7] ^ b[7],
-    ]
+    array::from_fn(|i| a[i] ^ b[i])
 }
 
 // A row of MIXCOLUMNS, from the rows of its column, its own first.
+#[tactic(auto, unfolding(crate::specs::Mix::sum_words, crate::specs::Mix::doubled_words, crate::specs::Mix::mix_words))]
 pub fn mix_row(a: [u64; 8], b: [u64; 8], c: [u64; 8], d: [u64; 8]) -> [u64; 8]
     ensures { result ≡ mix_words a b c d }
 {

@@ -6,6 +6,7 @@ ghost use Rattle.packing.specs.Planes.{first_word, second_word, block_bytes};
 ghost use Rattle.packing.specs.Theorems.{PackingLaws};
 
 // The first word of a block: columns 0 and 2.
+#[tactic(auto, unfolding(crate::specs::Planes::first_word))]
 pub fn first_word(b: block::Block) -> u64
     ensures { result ≡ first_word b.hi b.lo }
 {
@@ -13,6 +14,7 @@ pub fn first_word(b: block::Block) -> u64
 }
 
 // The second word of a block: columns 1 and 3.
+#[tactic(auto, unfolding(crate::specs::Planes::second_word))]
 pub fn second_word(b: block::Block) -> u64
     ensures { result ≡ second_word b.hi b.lo }
 {
@@ -20,26 +22,15 @@ pub fn second_word(b: block::Block) -> u64
 }
 
 // The 16 bytes of the block that two words hold.
+#[tactic(auto, unfolding(crate::specs::Planes::block_bytes))]
 pub fn block_bytes(p: u64, q: u64) -> [u8; 16]
     ensures { result ≡ block_bytes p q }
 {
+    let x = p.to_be_bytes();
+    let y = q.to_be_bytes();
     [
-        ((p >> 24) % 256) as u8,
-        ((p >> 16) % 256) as u8,
-        ((p >> 8) % 256) as u8,
-        (p % 256) as u8,
-        ((q >> 24) % 256) as u8,
-        ((q >> 16) % 256) as u8,
-        ((q >> 8) % 256) as u8,
-        (q % 256) as u8,
-        ((p >> 56) % 256) as u8,
-        ((p >> 48) % 256) as u8,
-        ((p >> 40) % 256) as u8,
-        ((p >> 32) % 256) as u8,
-        ((q >> 56) % 256) as u8,
-        ((q >> 48) % 256) as u8,
-        ((q >> 40) % 256) as u8,
-        ((q >> 32) % 256) as u8,
+        x[4], x[5], x[6], x[7], y[4], y[5], y[6], y[7], x[0], x[1], x[2], x[3], y[0], y[1], y[2],
+        y[3],
     ]
 }
 

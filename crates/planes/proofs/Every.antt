@@ -1,16 +1,15 @@
--- The bits of one block of a word, put into every block, bit by bit, and the loop that makes a round key of them. Assumes nothing.
-use mathlib.Core.Path.{◌≡◌, refl, sym, ap, ap₂, ◌∙◌}
-use mathlib.Core.List.{List, [], ◌∷◌}
+-- The bits of one block of a word, put into every block, bit by bit. Assumes nothing.
+use mathlib.Core.Path.{◌≡◌, refl, sym, ap, ◌∙◌}
+use mathlib.Core.List.{[], ◌∷◌}
 use Prim.Native.Nat.{ℕ, zero, suc, ◌+◌, ◌-◌, ◌*◌, ◌/◌, ◌%◌, ◌^◌, ◌<◌}
-use native.Mathlib.Numerals.{add-one}
 use native.Mathlib.Omega.{arith}
-use lib.ListN.{get_or, set, replicate}
+use lib.ListN.{get_or}
 use lib.Bits.{bit_and}
 use Rattle.circuit.specs.Bits.{bit_of}
 use Rattle.circuit.proofs.Laws.{bit_lt, zero_bit, every}
 use Rattle.swaps.proofs.Laws.{shr_bit, cut_bit}
 use Rattle.swaps.proofs.Masks.{masked}
-use Rattle.planes.specs.Rounds.{every_block, key_lane}
+use Rattle.planes.specs.Rounds.{every_block}
 
 -- A column of ones has a one at each bit, and a column of zeros none.
 column-bit : (n y : ℕ) → n < 16 → y < 2 → bit_of n (y * 0xffff) ≡ y
@@ -65,20 +64,3 @@ unfolding every_block
 every_bit m n c x h l p =
     let e : m + 16 * c ≡ 16 * c + m = omega arith in
     ones_bit n c (x / 2 ^ m) l p ∙ lowest_at c (x / 2 ^ m) p ∙ shr_bit m (16 * c) x ∙ ap (λ (i : ℕ). bit_of i x) e
-
--- The words of a round key after i turns of the loop that makes them.
-unfoldable pub key_to : List ℕ → ℕ → ℕ → List ℕ
-key_to k n zero = replicate 32 0
-key_to k n (suc i) = set (key_to k n i) i (every_block n (get_or k i 0))
-
-pub key_turn : (k : List ℕ) (n i y : ℕ) (r : List ℕ) → r ≡ key_to k n i → y ≡ every_block n (get_or k i 0) → set r i y ≡ key_to k n (i + 1)
-unfolding key_to
-key_turn k n i y r e q = ap₂ (λ (s : List ℕ) (v : ℕ). set s i v) e q ∙ ap (key_to k n) (sym (add-one i))
-
-pub key_none : (k : List ℕ) (n : ℕ) → replicate 32 0 ≡ key_to k n 0
-unfolding key_to
-key_none k n = refl
-
-pub key_done : (k : List ℕ) (n i : ℕ) (r : List ℕ) → i ≡ 32 → r ≡ key_to k n i → r ≡ key_lane k n
-unfolding key_to key_lane
-key_done k n i r e q = q ∙ ap (key_to k n) e

@@ -5,73 +5,17 @@
 #![tactic(auto)]
 
 ghost use Rattle.std.specs.Prelude.{◌≡◌, ◌<◌};
-ghost use Rattle.packing.specs.Planes.{row_from};
 ghost use Rattle.planes.specs.Rounds.{right_row, added_rows, added_lane, mixed_lane, moved_lane, every_block, key_lane};
 ghost use Rattle.planes.specs.Theorems.{PlaneLaws};
 
-// The row of a round key from place at on.
-fn key_row(k: &[u64; 32], at: usize) -> [u64; 8]
-    requires { at < 25 }
-    ensures { result ≡ row_from k.now at }
-{
-    [
-        k[at],
-        k[at + 1],
-        k[at + 2],
-        k[at + 3],
-        k[at + 4],
-        k[at + 5],
-        k[at + 6],
-        k[at + 7],
-    ]
-}
+use std::array;
 
-// SHIFTROWS (5.1.2) of row 1.
-fn row_16(x: [u64; 8]) -> [u64; 8]
-    ensures { result ≡ right_row 16 x }
+// SHIFTROWS (5.1.2) of a row: row r is turned right by 16 * r places.
+fn right_row(x: [u64; 8], k: u32) -> [u64; 8]
+    requires { (0 < k) × (k < 64) }
+    ensures { result ≡ right_row k x }
 {
-    [
-        swaps::right_16(x[0]),
-        swaps::right_16(x[1]),
-        swaps::right_16(x[2]),
-        swaps::right_16(x[3]),
-        swaps::right_16(x[4]),
-        swaps::right_16(x[5]),
-        swaps::right_16(x[6]),
-        swaps::right_16(x[7]),
-    ]
-}
-
-// SHIFTROWS (5.1.2) of row 2.
-fn row_32(x: [u64; 8]) -> [u64; 8]
-    ensures { result ≡ right_row 32 x }
-{
-    [
-        swaps::right_32(x[0]),
-        swaps::right_32(x[1]),
-        swaps::right_32(x[2]),
-        swaps::right_32(x[3]),
-        swaps::right_32(x[4]),
-        swaps::right_32(x[5]),
-        swaps::right_32(x[6]),
-        swaps::right_32(x[7]),
-    ]
-}
-
-// SHIFTROWS (5.1.2) of row 3.
-fn row_48(x: [u64; 8]) -> [u64; 8]
-    ensures { result ≡ right_row 48 x }
-{
-    [
-        swaps::right_48(x[0]),
-        swaps::right_48(x[1]),
-        swaps::right_48(x[2]),
-        swaps::right_48(x[3]),
-        swaps::right_48(x[4]),
-        swaps::right_48(x[5]),
-        swaps::right_48(x[6]),
-        swaps::right_48(x[7]),
-    ]
+    x.map(|w| w.rotate_right(k))
 }
 
 // ADDROUNDKEY (5.1.4) of four rows.
@@ -79,10 +23,10 @@ fn keyed(a: [u64; 8], b: [u64; 8], c: [u64; 8], d: [u64; 8], k: &[u64; 32]) -> [
     ensures { result ≡ added_rows a b c d k.now }
 {
     lanes::joined(
-        mix::sum_row(a, key_row(k, 0)),
-        mix::sum_row(b, key_row(k, 8)),
-        mix::sum_row(c, key_row(k, 16)),
-        mix::sum_row(d, key_row(k, 24)),
+        mix::sum_row(a, lanes::row(k, 0)),
+        mix::sum_row(b, lanes::row(k, 8)),
+        mix::sum_row(c, lanes::row(k, 16)),
+        mix::sum_row(d, lanes::row(k, 24)),
     )
 }
 
@@ -91,10 +35,10 @@ pub fn added(x: [u64; 32], k: &[u64; 32]) -> [u64; 32]
     ensures { result ≡ added_lane k.now x }
 {
     keyed(
-        lanes::row(x, 0),
-        lanes::row(x, 8),
-        lanes::row(x, 16),
-        lanes::row(x, 24),
+        lanes::row(&x, 0),
+        lanes::row(&x, 8),
+        lanes::row(&x, 16),
+        lanes::row(&x, 24),
         k,
     )
 }
@@ -103,10 +47,10 @@ pub fn added(x: [u64; 32], k: &[u64; 32]) -> [u64; 32]
 pub fn mixed(x: [u64; 32], k: &[u64; 32]) -> [u64; 32]
     ensures { result ≡ mixed_lane k.now x }
 {
-    let a = row_48(lanes::row(x, 0));
-    let b = row_32(lanes::row(x, 8));
-    let c = row_16(lanes::row(x, 16));
-    let d = lanes::row(x, 24);
+    let a = right_row(lanes::row(&x, 0), 48);
+    let b = right_row(lanes::row(&x, 8), 32);
+    let c = right_row(lanes::row(&x, 16), 16);
+    let d = lanes::row(&x, 24);
     keyed(
         mix::mix_row(a, d, c, b),
         mix::mix_row(b, a, d, c),
@@ -121,10 +65,10 @@ pub fn moved(x: [u64; 32], k: &[u64; 32]) -> [u64; 32]
     ensures { result ≡ moved_lane k.now x }
 {
     keyed(
-        row_48(lanes::row(x, 0)),
-        row_32(lanes::row(x, 8)),
-        row_16(lanes::row(x, 16)),
-        lanes::row(x, 24),
+        right_row(lanes::row(&x, 0), 48),
+        right_row(lanes::row(&x, 8), 32),
+        right_row(lanes::row(&x, 16), 16),
+        lanes::row(&x, 24),
         k,
     )
 }
@@ -142,11 +86,7 @@ pub fn round_key(k: &[u64; 32], n: usize) -> [u64; 32]
     requires { n < 16 }
     ensures { result ≡ key_lane k.now n }
 {
-    let mut r = [0u64; 32];
-    for i in 0usize..32 {
-        r[i] = every_block(k[i], n);
-    }
-    r
+    array::from_fn(|i| every_block(k[i], n))
 }
 
 // Under the round keys on bit planes each block of a lane becomes its cipher: nothing runs, and the check has to prove it.

@@ -1,48 +1,11 @@
--- The sum of numbers is associative, XTIMES is linear on bytes, and what a byte of MIXCOLUMNS is by it. Assumes nothing.
+-- XTIMES is linear on bytes, and what a byte of MIXCOLUMNS is by it. Assumes nothing.
 use Prim.Native.Nat.{ℕ, zero, suc, ◌+◌, ◌*◌, ◌/◌, ◌%◌, ◌<◌}
 use mathlib.Core.Path.{◌≡◌, refl, sym, ap, ap₂, ◌∙◌}
-use native.Mathlib.Nat.{mod-lt}
 use native.Mathlib.Omega.{arith}
-use lib.Arith.{bin_ind, digits_div, digits_mod}
-use lib.Bits.{bit_xor, differ, xor_step, xor_comm, xor_zero_r, xor_shr, xor_mod, xor_block}
+pub use lib.Bits.{xor_assoc}
+use lib.Bits.{bit_xor, xor_comm, xor_zero_r, xor_assoc, xor_shr, xor_mod, xor_block}
 use Rattle.field.specs.Field.{xtimes, times_bits, times}
 use Rattle.rounds.specs.State.{mix_byte}
-
--- ---- the sum of numbers
-
-differ_lt : (x y : ℕ) → x < 2 → y < 2 → differ x y < 2
-differ_lt zero y h k = k
-differ_lt (suc zero) zero h k = omega arith
-differ_lt (suc zero) (suc zero) h k = omega arith
-differ_lt (suc zero) (suc (suc y)) h k = absurd (omega arith)
-differ_lt (suc (suc x)) y h k = absurd (omega arith)
-
-differ_assoc : (x y z : ℕ) → x < 2 → y < 2 → z < 2 → differ (differ x y) z ≡ differ x (differ y z)
-differ_assoc zero y z h k l = refl
-differ_assoc (suc zero) zero z h k l = refl
-differ_assoc (suc zero) (suc zero) zero h k l = refl
-differ_assoc (suc zero) (suc zero) (suc zero) h k l = refl
-differ_assoc (suc zero) (suc zero) (suc (suc z)) h k l = absurd (omega arith)
-differ_assoc (suc zero) (suc (suc y)) z h k l = absurd (omega arith)
-differ_assoc (suc (suc x)) y z h k l = absurd (omega arith)
-
-pub xor_assoc : (a b c : ℕ) → bit_xor (bit_xor a b) c ≡ bit_xor a (bit_xor b c)
-xor_assoc = bin_ind (λ (a : ℕ). (b c : ℕ) → bit_xor (bit_xor a b) c ≡ bit_xor a (bit_xor b c)) (λ b c. refl) (λ a ih b c.
-    let x = bit_xor (a / 2) (b / 2) in
-    let r = differ (a % 2) (b % 2) in
-    let y = bit_xor (b / 2) (c / 2) in
-    let s = differ (b % 2) (c % 2) in
-    let ha = mod-lt a (omega arith) in
-    let hb = mod-lt b (omega arith) in
-    let hc = mod-lt c (omega arith) in
-    let hr = differ_lt (a % 2) (b % 2) ha hb in
-    let hs = differ_lt (b % 2) (c % 2) hb hc in
-    ap (λ (u : ℕ). bit_xor u c) (xor_step a b)
-    ∙ xor_step (x * 2 + r) c
-    ∙ ap₂ (λ (p q : ℕ). p * 2 + q)
-    (ap (λ (u : ℕ). bit_xor u (c / 2)) (digits_div x hr) ∙ ih (b / 2) (c / 2) ∙ ap (bit_xor (a / 2)) (sym (digits_div y hs)))
-    (ap (λ (u : ℕ). differ u (c % 2)) (digits_mod x hr) ∙ differ_assoc (a % 2) (b % 2) (c % 2) ha hb hc ∙ ap (differ (a % 2)) (sym (digits_mod y hs)))
-    ∙ sym (ap (bit_xor a) (xor_step b c) ∙ xor_step a (y * 2 + s)))
 
 -- ---- the products by 02 and 03
 

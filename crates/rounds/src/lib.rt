@@ -9,20 +9,18 @@ ghost use Rattle.field.specs.Sbox.{IsSbox};
 ghost use Rattle.rounds.specs.State.{state_of, bytes_of, sub_word, sub_bytes, shift_rows, mix_column, mix_columns, add_word, add_round_key};
 ghost use Rattle.rounds.specs.Round.{round_of, last_round};
 
+use std::array;
+
 // SUBWORD (5.2), and SUBBYTES of one column.
 pub fn sub_word(t: &[u8; 256], a: [u8; 4]) -> [u8; 4]
     requires { IsSbox t.now }
     ensures { result ≡ sub_word a }
 {
-    [
-        field::sub_byte(t, a[0]),
-        field::sub_byte(t, a[1]),
-        field::sub_byte(t, a[2]),
-        field::sub_byte(t, a[3]),
-    ]
+    a.map(|x| field::sub_byte(t, x))
 }
 
 // SUBBYTES (5.1.1).
+// Written out: a closure for `map` would have to repeat the contract of `sub_word`, which takes as many lines.
 pub fn sub_bytes(t: &[u8; 256], s: [[u8; 4]; 4]) -> [[u8; 4]; 4]
     requires { IsSbox t.now }
     ensures { result ≡ sub_bytes s }
@@ -36,6 +34,7 @@ pub fn sub_bytes(t: &[u8; 256], s: [[u8; 4]; 4]) -> [[u8; 4]; 4]
 }
 
 // SHIFTROWS (5.1.2).
+// Written out, as the figure of the standard: nested closures over index sums would need a contract for each column.
 pub fn shift_rows(s: [[u8; 4]; 4]) -> [[u8; 4]; 4]
     ensures { result ≡ shift_rows s }
 {
@@ -52,10 +51,7 @@ pub fn shift_rows(s: [[u8; 4]; 4]) -> [[u8; 4]; 4]
 fn mix_column(a: [u8; 4]) -> [u8; 4]
     ensures { result ≡ mix_column a }
 {
-    let a0 = a[0];
-    let a1 = a[1];
-    let a2 = a[2];
-    let a3 = a[3];
+    let [a0, a1, a2, a3] = a;
     let p = a0 ^ a1;
     let q = a1 ^ a2;
     let r = a2 ^ a3;
@@ -69,25 +65,22 @@ fn mix_column(a: [u8; 4]) -> [u8; 4]
 }
 
 // MIXCOLUMNS (5.1.3).
+#[tactic(auto, using(crate::proofs::Words::four_parts))]
 fn mix_columns(s: [[u8; 4]; 4]) -> [[u8; 4]; 4]
     ensures { result ≡ mix_columns s }
 {
-    [
-        mix_column(s[0]),
-        mix_column(s[1]),
-        mix_column(s[2]),
-        mix_column(s[3]),
-    ]
+    s.map(mix_column)
 }
 
 // The sum of two words.
 pub fn add_word(a: [u8; 4], b: [u8; 4]) -> [u8; 4]
     ensures { result ≡ add_word a b }
 {
-    [a[0] ^ b[0], a[1] ^ b[1], a[2] ^ b[2], a[3] ^ b[3]]
+    array::from_fn(|r| a[r] ^ b[r])
 }
 
 // ADDROUNDKEY (5.1.4).
+// Written out: a closure for `from_fn` would have to repeat the contract of `add_word`, which takes as many lines.
 pub fn add_round_key(s: [[u8; 4]; 4], k: [[u8; 4]; 4]) -> [[u8; 4]; 4]
     ensures { result ≡ add_round_key s k }
 {
@@ -100,6 +93,7 @@ pub fn add_round_key(s: [[u8; 4]; 4], k: [[u8; 4]; 4]) -> [[u8; 4]; 4]
 }
 
 // A round of Algorithm 1 (5.1).
+#[tactic(auto, unfolding(crate::specs::Round::round_of))]
 pub fn round(t: &[u8; 256], s: [[u8; 4]; 4], k: [[u8; 4]; 4]) -> [[u8; 4]; 4]
     requires { IsSbox t.now }
     ensures { result ≡ round_of s k }
@@ -108,6 +102,7 @@ pub fn round(t: &[u8; 256], s: [[u8; 4]; 4], k: [[u8; 4]; 4]) -> [[u8; 4]; 4]
 }
 
 // The last round, which has no MIXCOLUMNS (5.1).
+#[tactic(auto, unfolding(crate::specs::Round::last_round))]
 pub fn last_round(t: &[u8; 256], s: [[u8; 4]; 4], k: [[u8; 4]; 4]) -> [[u8; 4]; 4]
     requires { IsSbox t.now }
     ensures { result ≡ last_round s k }
@@ -116,6 +111,7 @@ pub fn last_round(t: &[u8; 256], s: [[u8; 4]; 4], k: [[u8; 4]; 4]) -> [[u8; 4]; 
 }
 
 // The state of 16 bytes (3.4).
+// Written out: nested closures would need a contract for each column, which takes as many lines.
 pub fn state_of(b: [u8; 16]) -> [[u8; 4]; 4]
     ensures { result ≡ state_of b }
 {
@@ -128,6 +124,7 @@ pub fn state_of(b: [u8; 16]) -> [[u8; 4]; 4]
 }
 
 // The 16 bytes of a state (3.4).
+// Written out: `s[i / 4][i % 4]` in a closure would need a law of sixteen parts, which is longer.
 pub fn bytes_of(s: [[u8; 4]; 4]) -> [u8; 16]
     ensures { result ≡ bytes_of s }
 {

@@ -4,10 +4,8 @@ use mathlib.Core.List.{List, [], ◌∷◌}
 use Prim.Native.Nat.{ℕ, ◌+◌, ◌*◌, ◌/◌, ◌%◌, ◌^◌, ◌<◌}
 use native.Mathlib.Nat.{add_comm, div-one}
 use native.Mathlib.Omega.{arith}
-use borrow.Author.Count.{below_more}
-use lib.ListN.{length, get_or, set}
+use lib.ListN.{length, get_or}
 use lib.Pow.{shr-shr, field, mod-mod-pow, high, low}
-use lib.Seq.{get_or-set_same, get_or-set_other, lt-length-set}
 use Rattle.rounds.specs.State.{state_of}
 use Rattle.rounds.proofs.Words.{four_equal}
 use Rattle.aes.specs.KeyExpansion.{key_expansion}
@@ -58,31 +56,6 @@ unfolding block_bytes word_bytes
 block {a} {b} {c} {d} p q r s =
     four_equal (low_bytes_lem a c p.small ∙ p.bytes) (low_bytes_lem b d q.small ∙ q.bytes) (high_bytes a c p.small ∙ r.bytes)
     (high_bytes b d q.small ∙ s.bytes)
-
--- ---- the stores
-
--- The words after the two stores of turn n.
-abbrev stored : List ℕ → ℕ → ℕ → ℕ → List ℕ
-stored s n p q = set (set s (16 * n) p) (16 * n + 256) q
-
-stored_other : (s : List ℕ) (n p q i : ℕ) → (i ≡ 16 * n → ⊥) → (i ≡ 16 * n + 256 → ⊥) → get_or (stored s n p q) i 0 ≡ get_or s i 0
-stored_other s n p q i u v = get_or-set_other (set s (16 * n) p) (16 * n + 256) i q 0 v ∙ get_or-set_other s (16 * n) i p 0 u
-
--- A turn: one round key more.
-pub keys_more : (w s : List ℕ) (n : ℕ) {p q : ℕ} → length s ≡ 512 → n < 15 → ((m : ℕ) → m < n → KeyBlock w s m)
-    → p ≡ get_or w (4 * n) 0 + get_or w (4 * n + 2) 0 * 2 ^ 32 → q ≡ get_or w (4 * n + 1) 0 + get_or w (4 * n + 3) 0 * 2 ^ 32
-    → (m : ℕ) → m < n + 1 → KeyBlock w (stored s n p q) m
-keys_more w s n {p} {q} whole few before u v =
-    below_more (KeyBlock w (stored s n p q)) n
-    (λ m l.
-    record {
-      first = stored_other s n p q (16 * m) (λ e. omega arith) (λ e. omega arith) ∙ (before m l).first;
-      second = stored_other s n p q (16 * m + 256) (λ e. omega arith) (λ e. omega arith) ∙ (before m l).second;
-    })
-    (record {
-      first = get_or-set_other (set s (16 * n) p) (16 * n + 256) (16 * n) q 0 (λ e. omega arith) ∙ get_or-set_same s (16 * n) p 0 (omega arith) ∙ u;
-      second = get_or-set_same (set s (16 * n) p) (16 * n + 256) q 0 (lt-length-set s (16 * n) p (omega arith)) ∙ v;
-    })
 
 -- ---- the planes
 

@@ -3,24 +3,23 @@
 // No index and no branch depends on a byte of the key.
 #![tactic(auto)]
 
-ghost use Rattle.std.specs.Prelude.{◌≡◌, ℕ, ◌+◌, ◌*◌, ◌^◌, ◌<◌, get_or, length};
+ghost use Rattle.std.specs.Prelude.{◌≡◌, ℕ, ◌+◌, ◌*◌, ◌^◌, ◌<◌, length};
 ghost use Rattle.aes.specs.KeyExpansion.{key_expansion};
 ghost use Rattle.lanes.specs.Lanes.{lane_at};
 ghost use Rattle.planes.specs.Rounds.{KeyPlanes};
 ghost use Rattle.schedule.specs.Keys.{KeyBlock};
 
+use std::array;
+
 // Two words of 32 bits in one of 64, the first in the low half.
-fn pair(a: u64, b: u64) -> u64
-    requires { (a < 2 ^ 32) × (b < 2 ^ 32) }
+fn pair(a: u32, b: u32) -> u64
     ensures { result ≡ a + b * 2 ^ 32 }
 {
-    a + b * 4294967296
+    u64::from(a) + (u64::from(b) << 32)
 }
 
 // The round keys into the first lane, as its blocks 0 to 14.
-fn put_keys(s: &mut [u64], w: &[u64; 60])
-    requires s_len { length s.old ≡ 512 }
-    requires by_index { (i : ℕ) → i < 60 → get_or w.now i 0 < 2 ^ 32 }
+fn put_keys(s: &mut [u64; 512], w: &[u32; 60])
     ensures { (n : ℕ) → n < 15 → KeyBlock w.now s.new n }
 {
     for n in 0usize..15 {
@@ -35,11 +34,7 @@ fn put_keys(s: &mut [u64], w: &[u64; 60])
 fn first_lane(s: &[u64; 512]) -> [u64; 32]
     ensures { result ≡ lane_at s.now 0 }
 {
-    [
-        s[0], s[16], s[32], s[48], s[64], s[80], s[96], s[112], s[128], s[144], s[160], s[176],
-        s[192], s[208], s[224], s[240], s[256], s[272], s[288], s[304], s[320], s[336], s[352],
-        s[368], s[384], s[400], s[416], s[432], s[448], s[464], s[480], s[496],
-    ]
+    array::from_fn(|i| s[16 * i])
 }
 
 // The round keys of a key on bit planes: block n of the lane is round key n. The words s are working memory.

@@ -6,6 +6,7 @@ use native.Mathlib.Nat.{mod-lt, mod-eq_of_lt, div-eq_of_lt, mul_assoc, lt_of_lt_
 use native.Mathlib.Omega.{arith}
 use borrow.Author.Tests.{ltb-true, ltb-false}
 use lib.Dec.{ltb}
+use Rattle.std.specs.Int.{w64, rotate_right}
 use lib.Pow.{pow-add, pow_pos, pow_mono, shr-shr, shl-shr, field, mod-mod-pow}
 use lib.Bits.{bit_xor, bit_and, bit_or, or_shr, or_mod, and_zero_r, xor_zero_r, or_zero_r, or_zero_l, shifted_even}
 use Rattle.circuit.specs.Bits.{bit_of}
@@ -120,10 +121,13 @@ turned_by k x i l b false e =
     (ap (λ (j : ℕ). bit_of j (x * 2 ^ (64 - k) % 2 ^ 64)) p ∙ shl_bit (64 - k) (i + k - 64) x (omega arith))
     ∙ or_zero_l (bit_of (i + k - 64) x) ∙ ap (λ (j : ℕ). bit_of j x) (sym n)
 
--- A rotation of a word of 64 bits, as code computes it.
-pub right-word : (k x : ℕ) → x < 2 ^ 64 → bit_or (x / 2 ^ k) (x * 2 ^ (64 - k) % 2 ^ 64) ≡ right k x
+-- A rotation of a word of 64 bits by the library's method.
+pub rotated : (k x : ℕ) → 0 < k → k < 64 → x < 2 ^ 64 → rotate_right w64 x k ≡ right k x
 unfolding right
-right-word k x l = ap (λ (n : ℕ). bit_or (n / 2 ^ k) (x * 2 ^ (64 - k) % 2 ^ 64)) (sym (mod-eq_of_lt l))
+rotated k x some few l =
+    let d : k % 64 ≡ k = omega arith in
+    let e : (64 - k) % 64 ≡ 64 - k = omega arith in
+    rw (d, e, mod-eq_of_lt l)
 
 pub laws : SwapLaws
 laws =

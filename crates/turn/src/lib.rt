@@ -3,9 +3,19 @@
 // Five stages of 16 delta swaps each, by 16, 8, 4, 2 and 1 places. No branch, index or shift depends on the words.
 #![tactic(auto)]
 
-ghost use Rattle.std.specs.Prelude.{◌≡◌};
+ghost use Rattle.std.specs.Prelude.{◌≡◌, ◌+◌, ◌<◌};
 ghost use Rattle.swaps.specs.Transpose.{swaps};
-ghost use Rattle.turn.specs.Turn.{Apart, stage, turned_of, TurnLaws};
+ghost use Rattle.turn.specs.Turn.{first, Apart, stage, turned_of, TurnLaws};
+
+// The first word of swap i of a stage by h places. The second is h after it.
+fn first(h: usize, i: usize) -> usize
+    requires apart { Apart h }
+    requires few { i < 16 }
+    ensures value { result ≡ first h i }
+    ensures within { result + h < 32 }
+{
+    i / h * (2 * h) + i % h
+}
 
 // The stage by h places: the bits that m picks, h places up in a word, change place with those of the word h after it.
 fn stage(x: [u64; 32], h: usize, m: u64) -> [u64; 32]
@@ -14,7 +24,7 @@ fn stage(x: [u64; 32], h: usize, m: u64) -> [u64; 32]
 {
     let mut w = x;
     for i in 0usize..16 {
-        let a = i / h * (2 * h) + i % h;
+        let a = first(h, i);
         let b = a + h;
         let p = w[a];
         let q = w[b];

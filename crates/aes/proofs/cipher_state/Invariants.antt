@@ -1,11 +1,8 @@
 -- `aes::cipher_state` meets its contract. Before turn n the state is the definition's after n - 1 rounds. Assumes nothing.
 use mathlib.Core.Path.{◌≡◌}
-use Prim.Native.Nat.{◌≤◌, ◌-◌}
+use Prim.Native.Nat.{◌-◌}
 use Rattle.aes.specs.Cipher.{rounds}
 use Rattle.aes.proofs.cipher_state.Given as goal
 
 abbrev pub invariant-loop-n : goal.invariant-loop-n
-invariant-loop-n l = (1 ≤ l.n) × (l.n ≤ 14) × (l.x ≡ rounds l.w l.initial.x (l.n - 1))
-
-abbrev pub decreases-loop-n : goal.decreases-loop-n
-decreases-loop-n l = 14 - l.n
+invariant-loop-n l = l.x ≡ rounds l.w l.initial.x (l.n - 1)

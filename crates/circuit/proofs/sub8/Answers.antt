@@ -1,6 +1,5 @@
 -- `circuit::sub8` meets its contract: it is the list of gates. Assumes nothing.
 use mathlib.Core.Path.{refl}
-use borrow.Author.Rules.{rules}
 use Rattle.circuit.specs.Circuit.{sub_words}
 use Rattle.circuit.proofs.sub8.Goals as goal
 

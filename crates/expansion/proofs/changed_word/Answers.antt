@@ -3,6 +3,7 @@ use mathlib.Core.Path.{ap}
 use mathlib.Core.List.{List}
 use Prim.Native.Nat.{ℕ, ◌/◌}
 use native.Mathlib.Omega.{arith}
+use borrow.Author.Rules.{rules}
 use borrow.Author.Tests.{eq-eqb, ne_eqb}
 use Rattle.rounds.specs.State.{sub_word, add_word}
 use Rattle.aes.specs.KeyExpansion.{rcon}
@@ -21,4 +22,4 @@ returns-then-m-eq4 c =
     rw (ne_eqb _ _ c.if-m-eq0.false, eq-eqb _ _ c.if-m-eq4.true) c.sub_word-then-m-eq4.ensures
 
 pub returns : goal.returns
-returns c = rw (ne_eqb _ _ c.if-m-eq0.false, ne_eqb _ _ c.if-m-eq4.false) (own_word _ c.requires.p_bound)
+returns c = rw (ne_eqb _ _ c.if-m-eq0.false, ne_eqb _ _ c.if-m-eq4.false) (own_word _ (search rules))

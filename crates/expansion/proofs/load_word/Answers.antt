@@ -1,7 +1,7 @@
 -- `expansion::load_word` meets its contract. Assumes nothing.
+use Rattle.std.proofs.Common.{rules}
 use Rattle.expansion.proofs.Numbers.{bytes_word}
 use Rattle.expansion.proofs.load_word.Goals as goal
 
 pub returns : goal.returns
-returns c =
-    bytes_word c.byte_at-a.ensures c.byte_at-b.ensures c.byte_at-c.ensures c.byte_at-d.ensures
+returns c = rw c.from_be_bytes.ensures (bytes_word _ _ _ _ (search rules) (search rules) (search rules) (search rules))

@@ -1,7 +1,7 @@
 -- `expansion::rot_word` meets its contract. Assumes nothing.
-use borrow.Author.Rules.{rules}
+use Rattle.std.proofs.Common.{rules}
 use Rattle.expansion.proofs.Numbers.{turned_word}
 use Rattle.expansion.proofs.rot_word.Goals as goal
 
 pub returns : goal.returns
-returns c = turned_word c.args.p (search rules)
+returns c = rw c.rotate_left.ensures (turned_word c.args.p (search rules))

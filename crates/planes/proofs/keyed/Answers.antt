@@ -12,7 +12,7 @@ unfolding added_rows sum_words
 returns c =
     c.joined.ensures
     ∙ same_rows (λ p q r s. row_from p 0 ++ (row_from q 0 ++ (row_from r 0 ++ row_from s 0)))
-    (c.sum_row.ensures ∙ ap (sum_words c.args.a) c.key_row.ensures)
-    (c.sum_row-2.ensures ∙ ap (sum_words c.args.b) c.key_row-2.ensures)
-    (c.sum_row-3.ensures ∙ ap (sum_words c.args.c) c.key_row-3.ensures)
-    (c.sum_row-4.ensures ∙ ap (sum_words c.args.d) c.key_row-4.ensures)
+    (c.sum_row.ensures ∙ ap (sum_words c.args.a) c.row.ensures)
+    (c.sum_row-2.ensures ∙ ap (sum_words c.args.b) c.row-2.ensures)
+    (c.sum_row-3.ensures ∙ ap (sum_words c.args.c) c.row-3.ensures)
+    (c.sum_row-4.ensures ∙ ap (sum_words c.args.d) c.row-4.ensures)

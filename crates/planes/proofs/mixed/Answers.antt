@@ -12,7 +12,7 @@ returns c =
     ∙ same_rows (λ a b c d. added_rows a b c d k.now) c.mix_row.ensures c.mix_row-2.ensures
     c.mix_row-3.ensures c.mix_row-4.ensures
     ∙ same_rows (λ a b c d. mixed_rows a b c d k.now)
-    (c.row_48-a.ensures ∙ ap (right_row 48) c.row.ensures)
-    (c.row_32-b.ensures ∙ ap (right_row 32) c.row-2.ensures)
-    (c.row_16-c.ensures ∙ ap (right_row 16) c.row-3.ensures)
+    (c.right_row-a.ensures ∙ ap (right_row 48) c.row.ensures)
+    (c.right_row-b.ensures ∙ ap (right_row 32) c.row-2.ensures)
+    (c.right_row-c.ensures ∙ ap (right_row 16) c.row-3.ensures)
     c.row-d.ensures

@@ -10,7 +10,7 @@ returns c =
     let k = c.args.k in
     c.keyed.ensures
     ∙ same_rows (λ a b c d. added_rows a b c d k.now)
-    (c.row_48.ensures ∙ ap (right_row 48) c.row.ensures)
-    (c.row_32.ensures ∙ ap (right_row 32) c.row-2.ensures)
-    (c.row_16.ensures ∙ ap (right_row 16) c.row-3.ensures)
+    (c.right_row.ensures ∙ ap (right_row 48) c.row.ensures)
+    (c.right_row-2.ensures ∙ ap (right_row 32) c.row-2.ensures)
+    (c.right_row-3.ensures ∙ ap (right_row 16) c.row-3.ensures)
     c.row-4.ensures

@@ -1,17 +1,10 @@
--- `planes::round_key` meets its contract: after i turns the first i words are made. Assumes nothing.
-use native.Mathlib.Omega.{arith}
-use Rattle.planes.proofs.Every.{key_turn, key_none, key_done}
+-- `planes::round_key` meets its contract, word by word. Assumes nothing.
+use Rattle.std.proofs.Common.{rules, ℕ, get_or}
+use Rattle.circuit.proofs.Made.{made}
+use Rattle.planes.specs.Rounds.{every_block, key_lane}
 use Rattle.planes.proofs.round_key.Goals as goal
 
-pub loop-i-init : goal.loop-i-init
-loop-i-init c = (omega arith, key_none _ _)
-
-pub loop-i-preserved : goal.loop-i-preserved
-loop-i-preserved c =
-    let l = c.loop-i in
-    (omega arith, key_turn _ _ l.i _ l.r l.invariant.1 c.every_block.ensures)
-
 pub returns : goal.returns
+unfolding key_lane
 returns c =
-    let l = c.loop-i in
-    key_done _ _ l.i l.r (omega arith) l.invariant.1
+    made _ (λ (i : ℕ). every_block c.args.n (get_or c.args.k.now i 0)) _ (λ x y q h. search rules) _ 32 c.from_fn.ensures.items

@@ -3,9 +3,6 @@ use borrow.Author.Rules.{rules}
 use Rattle.schedule.proofs.Blocks.{key_planes}
 use Rattle.schedule.proofs.key_planes.Goals as goal
 
-pub put_keys-requires-clause-by_index : goal.put_keys-requires-clause-by_index
-put_keys-requires-clause-by_index c = λ i l. (c.expand-w.ensures.word i l).small
-
 pub returns : goal.returns
 returns c =
     key_planes _ _ c.put_keys.new.s _ _ c.expand-w.ensures (search rules) c.put_keys.ensures
