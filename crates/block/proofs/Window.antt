@@ -1,7 +1,5 @@
 -- Laws of the bytes read from a place on. Assumes nothing.
-use Rattle.std.proofs.Common.{◌≡◌, ℕ, zero, suc, ◌+◌, ◌*◌, ◌^◌, ◌<◌, ◌≤◌, List, ◌∷◌, ◌++◌, length, get_or, take, drop, sym, refl, ap, ◌∙◌, subst, ap₂, lt_of_lt_of_le, zero-lt-suc, pow-suc, add-one, arith, drop-cons, add-zero}
-use native.Mathlib.Nat.{pow-le-pow_right}
-use lib.Arith.{digits_lt}
+use Rattle.std.proofs.Common.{◌≡◌, ℕ, zero, suc, ◌+◌, ◌*◌, ◌^◌, ◌≤◌, List, ◌∷◌, ◌++◌, length, get_or, take, drop, sym, refl, ap, ◌∙◌, ap₂, add-one, arith, drop-cons, add-zero}
 use mir.Syntax.{w64}
 use Rattle.std.specs.Int.{from_be_bytes}
 use Rattle.block.specs.Bytes.{number_after, number, window}
@@ -53,13 +51,6 @@ number_eight s bs at a b c d e f g h =
     let p₅ : at + 5 + 1 ≡ at + 6 = omega arith in
     let p₆ : at + 6 + 1 ≡ at + 7 = omega arith in
     simp (a, b, c, d, e, f, g, h, add-zero, p₁, p₂, p₃, p₄, p₅, p₆) (omega arith)
-
--- A byte more in a number of k bytes, and what seven of them reach.
-pub bytes-< : (k x b : ℕ) → x < 256 ^ k → b < 256 → x * 256 + b < 256 ^ (k + 1)
-bytes-< k x b h l = subst (λ (n : ℕ). x * 256 + b < n) (sym (ap (λ (n : ℕ). 256 ^ n) (add-one k) ∙ pow-suc 256 k)) (digits_lt h l)
-
-pub seven_bytes-< : (k x : ℕ) → k < 8 → x < 256 ^ k → x < 2 ^ 56
-seven_bytes-< k x h l = lt_of_lt_of_le l (pow-le-pow_right {n = 256} (zero-lt-suc 255) {i = k} {j = 7} (omega arith))
 
 -- Sixteen bytes are two halves.
 pub number_halves : (s : List ℕ) (at : ℕ) → number (window s at 16) ≡ number (window s at 8) * 2 ^ 64 + number (window s (at + 8) 8)

@@ -1,7 +1,7 @@
 // A block of 128 bits as two halves of 64, its bytes, and the counter's sum over all 128 bits.
 #![tactic(auto)]
 
-ghost use Rattle.std.specs.Prelude.{◌≡◌, ◌+◌, ◌%◌, ◌^◌, ◌<◌, length};
+ghost use Rattle.std.specs.Prelude.{◌≡◌, ◌+◌, ◌%◌, ◌^◌, ◌<◌};
 ghost use Rattle.block.specs.Bytes.{number, big_endian, window};
 ghost use Rattle.block.specs.Number.{block_number};
 

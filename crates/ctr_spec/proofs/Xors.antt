@@ -3,9 +3,8 @@ use Prim.Native.Nat.{ℕ, zero, suc, ◌<◌}
 use mathlib.Core.Path.{◌≡◌, refl, ap, ap₂, ◌∙◌}
 use mathlib.Core.List.{List, [], ◌∷◌}
 use native.Mathlib.Omega.{arith}
-use lib.Bits.{bit_xor, xor_self, xor_zero_r}
+use lib.Bits.{bit_xor, xor_self, xor_zero_r, xor_assoc}
 use lib.ListN.{length, get_or, take, drop}
-use Rattle.rounds.proofs.Linear.{xor_assoc}
 use Rattle.ctr_spec.specs.CounterMode.{xors}
 
 pub xor_twice : (a k : ℕ) → bit_xor (bit_xor a k) k ≡ a

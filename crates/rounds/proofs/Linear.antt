@@ -2,7 +2,6 @@
 use Prim.Native.Nat.{ℕ, zero, suc, ◌+◌, ◌*◌, ◌/◌, ◌%◌, ◌<◌}
 use mathlib.Core.Path.{◌≡◌, refl, sym, ap, ap₂, ◌∙◌}
 use native.Mathlib.Omega.{arith}
-pub use lib.Bits.{xor_assoc}
 use lib.Bits.{bit_xor, xor_comm, xor_zero_r, xor_assoc, xor_shr, xor_mod, xor_block}
 use Rattle.field.specs.Field.{xtimes, times_bits, times}
 use Rattle.rounds.specs.State.{mix_byte}
