@@ -27,8 +27,7 @@ pub enum WalkReply {
 
 // ---- hexadecimal
 
-// The number that a digit stands for, `None` of a byte that is no digit. The engine has no dependencies, and std has no lowercase digits
-// alone.
+// The number that a digit stands for, `None` of a byte that is no digit. By hand, since `char::to_digit` of std takes uppercase too.
 #[tactic(auto, using(std::proofs::lemmas::Bool::Decides::nat_tests), unfolding(crate::specs::Hexadecimal::value))]
 fn value(c: u8) -> Option<u8>
     ensures { MatchOption result (16 ≤ value·of c) (λ v. (v ≡ value·of c) × (v < 16)) }
@@ -40,6 +39,7 @@ fn value(c: u8) -> Option<u8>
     }
 }
 
+// The digit of a number. By hand, since `char::from_digit` of std gives an `Option` of a `char`, which is no plainer.
 fn digit(n: u8) -> u8
     requires { n < 16 }
     ensures { result ≡ digit·of n }
