@@ -48,7 +48,7 @@ fn digit(n: u8) -> u8
 }
 
 // The bytes that a line of at most 1,026 digits spells, at the start of the frame: how many, or `None` where the line is not
-// hexadecimal or has an odd number of digits.
+// hexadecimal or has an odd number of digits. A count and no part of the frame, since the contract speaks of the whole frame.
 pub fn decode(line: &[u8], frame: &mut [u8]) -> Option<usize>
     requires { (length line.now ≤ 1026) × (length frame.old ≡ 513) }
     ensures line_value { decode·of line.now ≡ spelt_in result frame.new }
