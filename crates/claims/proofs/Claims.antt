@@ -85,26 +85,12 @@ module _ (w : Walk) (i a : ℕ) where
         → Serves w ψ (offset_of g a) 0 16 w' said → Answers (written state i a) (state_of w') (answer_bytes (Ok said))
     rewrite_answers e s = rw (s.left, s.answered, e, add-zero w.start) (record { left = refl; answered = refl })
 
-    -- The walk whose tables a claim has set.
-    abbrev assigned : (maps owners : List ℕ) → Walk
-    assigned maps owners =
-        record {
-          geometry = w.geometry;
-          sized = w.sized;
-          shuffled = w.shuffled;
-          counted = w.counted;
-          position = w.position;
-          start = w.start;
-          maps = maps;
-          owners = owners;
-          perm = w.perm;
-        }
-
+    -- The walk that is served has its tables set already.
     pub claim_answers : (place drawn : ℕ) (maps owners : List ℕ)
         → engine_write state i a ≡ claimed state.held i (slice_of g a) (offset_of g a) ψ place (zeros g.b) endless
         → slot g i (slice_of g a) < 15 * g.p → ψ < g.p → w.start ≤ place
         → maps ≡ set w.maps (slot g i (slice_of g a)) ψ → owners ≡ set w.owners ψ (i + 1)
-        → drawn ≡ claim_need g → Serves (assigned maps owners) ψ (offset_of g a) (place + 1 - w.start) drawn w' said
+        → drawn ≡ claim_need g → Serves (record w { maps = maps; owners = owners }) ψ (offset_of g a) (place + 1 - w.start) drawn w' said
         → Answers (written state i a) (state_of w') (answer_bytes (Ok said))
     claim_answers place drawn maps owners e inside below from m o n s =
         let next : w.start + (place + 1 - w.start) ≡ place + 1 = omega arith in

@@ -34,18 +34,7 @@ pub record Answers (s : Stepped) (state : State) (answer : List ℕ) : Type 0 wh
 
 -- A walk with another tape position and start place.
 abbrev pub moved : Walk → (position start : ℕ) → Walk
-moved w position start =
-    record {
-      geometry = w.geometry;
-      sized = w.sized;
-      shuffled = w.shuffled;
-      counted = w.counted;
-      position = position;
-      start = start;
-      maps = w.maps;
-      owners = w.owners;
-      perm = w.perm;
-    }
+moved w position start = record w { position = position; start = start }
 
 -- A served frame 03 at block offset j: the position moves on by what was drawn, the start place by what was looked at (document 02,
 -- P2), and the values are answered.

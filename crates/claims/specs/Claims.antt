@@ -27,6 +27,6 @@ abbrev pub written : State → (i a : ℕ) → Stepped
 written w i a =
     let o = engine_write w i a in
     record {
-      state = record { sized = w.sized; shuffled = w.shuffled; counted = w.counted; perm = w.perm; held = o.held };
+      state = record w { held = o.held };
       answer = printed (geometry w.held) (offset_of (geometry w.held) a) o.held.position o.answer;
     }

@@ -33,7 +33,7 @@ pub const MAP_ENTRIES: usize = 15 * MOST_SLICES;
 // ---- the walk
 
 // A walk: the geometry of the accepted frame 01, whether a frame 01 and a frame 02 were accepted, how many frames 03 of the right
-// length came, the tape position, the start place (document 02, P2), and the tables at the start of their arrays.
+// length came, the tape position, the start place (document 02, P2), and the tables at the start of their arrays, since memory is fixed.
 #[derive(Drop)]
 pub struct Walk {
     pub geometry: Geometry,

@@ -116,7 +116,7 @@ fn planes_from_into(key: &[u8], iv: &[u8], n: usize, text: &[u8], out: &mut [u8]
     while at < text.len() {
         let left = text.len() - at;
         let off = (n + at) % 16;
-        let lanes = ((off + left + 255) / 256).min(16);
+        let lanes = (off + left).div_ceil(256).min(16);
         keystream::output_blocks(&mut s, lanes, &keys, c, (n + at) / 16, &mut buf);
         let k = left.min(256 * lanes - off);
         add_stream(&buf, off, at, k, text, out);
@@ -140,6 +140,7 @@ pub fn ctr_from_into(key: &[u8], iv: &[u8], n: usize, text: &[u8], out: &mut [u8
 }
 
 // Counter mode of a text.
+#[tactic(auto, unfolding(ctr_spec::specs::CounterMode::ctr))]
 pub fn ctr_into(key: &[u8], iv: &[u8], text: &[u8], out: &mut [u8])
     requires key_len { length key.now ≡ 32 }
     requires iv_len { length iv.now ≡ 16 }
@@ -151,6 +152,7 @@ pub fn ctr_into(key: &[u8], iv: &[u8], text: &[u8], out: &mut [u8])
 }
 
 // The refusal of a call for the lengths of key, IV, text and output: 3 or 13.
+#[tactic(auto, using(std::proofs::lemmas::Bool::Decides::nat_tests), unfolding(crate::specs::Call::ctr_refusal, refusals::specs::Numbers::refuse))]
 pub fn check_lengths(key: usize, iv: usize, text: usize, out: usize) -> Result<(), Refusal>
     ensures { answer_number result ≡ ctr_refusal key iv text out }
 {

@@ -90,45 +90,15 @@ module _ (w : State) (fields : List ℕ) where
         on_order_missing h = rw (first, sized, eq-eqb (length fields) (2 * slices) long, h)
 
         pub on_order_accepted : missing slices (pairs fields) ≡ false
-            → on_order w fields ≡ accepted (record { sized = true; shuffled = true; counted = w.counted; perm = pairs fields; held = w.held })
+            → on_order w fields ≡ accepted (record w { shuffled = true; perm = pairs fields })
         unfolding on_order refuse
         on_order_accepted h = rw (first, sized, eq-eqb (length fields) (2 * slices) long, h)
 
--- A walk with another permutation.
-abbrev pub ordered : Walk → (perm : List ℕ) → Walk
-ordered w perm =
-    record {
-      geometry = w.geometry;
-      sized = w.sized;
-      shuffled = w.shuffled;
-      counted = w.counted;
-      position = w.position;
-      start = w.start;
-      maps = w.maps;
-      owners = w.owners;
-      perm = perm;
-    }
-
 -- Before a frame 02 is accepted, what stands in the permutation does not matter.
-pub state_of_unshuffled : (w : Walk) (perm : List ℕ) → w.shuffled ≡ false → state_of w ≡ state_of (ordered w perm)
+pub state_of_unshuffled : (w : Walk) (perm : List ℕ) → w.shuffled ≡ false → state_of w ≡ state_of (record w { perm = perm })
 state_of_unshuffled w perm e = rw e
 
 -- ---- frame 03
-
--- A walk with one frame 03 more.
-abbrev pub counted_once : Walk → Walk
-counted_once w =
-    record {
-      geometry = w.geometry;
-      sized = w.sized;
-      shuffled = w.shuffled;
-      counted = w.counted + 1;
-      position = w.position;
-      start = w.start;
-      maps = w.maps;
-      owners = w.owners;
-      perm = w.perm;
-    }
 
 module _ (w : State) (fields : List ℕ) where
   pub on_claim_length : (length fields ≡ 5 → ⊥) → on_claim w fields ≡ refused_by w 14

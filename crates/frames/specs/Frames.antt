@@ -56,13 +56,13 @@ order_refusal w fields =
 unfoldable pub on_order : State → (fields : List ℕ) → Stepped
 on_order w fields =
     unless (order_refusal w fields) (refused_by w)
-    (accepted (record { sized = w.sized; shuffled = true; counted = w.counted; perm = pairs fields; held = w.held }))
+    (accepted (record w { shuffled = true; perm = pairs fields }))
 
 -- ---- frame 03: volume, one byte, and address, four
 
 -- A state with one frame 03 more.
 abbrev pub counting : State → State
-counting w = record { sized = w.sized; shuffled = w.shuffled; counted = w.counted + 1; perm = w.perm; held = w.held }
+counting w = record w { counted = w.counted + 1 }
 
 -- A wrong length, or 4,096 of the right length before it, is 14; each other one is counted, and is 20 before a 01 and a 02
 -- are accepted.

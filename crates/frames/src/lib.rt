@@ -74,7 +74,7 @@ fn on_size(walk: &mut Walk, fields: &[u8]) -> Result<WalkReply, Refusal>
     walk.position = 0;
     walk.start = 0;
     tables::unmap(&mut walk.maps);
-    places::clear(&mut walk.owners);
+    walk.owners.fill(0);
     Ok(WalkReply::Accepted)
 }
 

@@ -43,6 +43,7 @@ pub fn carry_out(
         device.old (release_result result.answer) device.new maps.new owners.new (needed answer)
         result.session }
 {
+    // No `?`: the session is handed back beside the answer (document 01).
     if let Err(refusal) = answer {
         return Released {
             answer: Err(refusal),

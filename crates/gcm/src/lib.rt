@@ -129,6 +129,7 @@ pub fn open_into(key: &[u8], iv: &[u8], aad: &[u8], text: &[u8], tag: &[u8], out
 }
 
 // The refusal of either call for the lengths of what it was handed: 3 or 13.
+#[tactic(auto, using(std::proofs::lemmas::Bool::Decides::nat_tests), unfolding(crate::specs::Call::gcm_refusal, refusals::specs::Numbers::refuse))]
 fn lengths_refusal(key: usize, iv: usize, aad: usize, text: usize, tag: usize, out: usize) -> Result<(), Refusal>
     ensures { answer_number result ≡ gcm_refusal key iv aad text tag out 0 }
 {

@@ -1,6 +1,8 @@
 // The calls that draw, for a caller that has the tape position as a plain number: the C functions and the demonstration.
 //
 // The record is made in a local, lent to the call, and its number read back, so that callers need no record of their own.
+// Each function does that itself: one over a closure would save it two lines, but its contract would have to speak of what the closure
+// is before and after the call.
 #![tactic(auto)]
 
 ghost use Rattle.std.specs.Prelude.{length};

@@ -27,8 +27,7 @@ pub enum WalkReply {
 
 // ---- hexadecimal
 
-// The number that a digit stands for, `None` of a byte that is no digit. The engine has no dependencies, and std has no lowercase digits
-// alone.
+// The number that a digit stands for, `None` of a byte that is no digit. By hand, since `char::to_digit` of std takes uppercase too.
 #[tactic(auto, using(std::proofs::lemmas::Bool::Decides::nat_tests), unfolding(crate::specs::Hexadecimal::value))]
 fn value(c: u8) -> Option<u8>
     ensures { MatchOption result (16 ≤ value·of c) (λ v. (v ≡ value·of c) × (v < 16)) }
@@ -40,6 +39,7 @@ fn value(c: u8) -> Option<u8>
     }
 }
 
+// The digit of a number. By hand, since `char::from_digit` of std gives an `Option` of a `char`, which is no plainer.
 fn digit(n: u8) -> u8
     requires { n < 16 }
     ensures { result ≡ digit·of n }
@@ -48,7 +48,7 @@ fn digit(n: u8) -> u8
 }
 
 // The bytes that a line of at most 1,026 digits spells, at the start of the frame: how many, or `None` where the line is not
-// hexadecimal or has an odd number of digits.
+// hexadecimal or has an odd number of digits. A count and no part of the frame, since the contract speaks of the whole frame.
 pub fn decode(line: &[u8], frame: &mut [u8]) -> Option<usize>
     requires { (length line.now ≤ 1026) × (length frame.old ≡ 513) }
     ensures line_value { decode·of line.now ≡ spelt_in result frame.new }

@@ -12,7 +12,7 @@ use walk::{LINE_BYTES, LineReader};
 // The bytes of input that are read at a time, and of output that wait at most.
 const PIECE_BYTES: usize = 65_536;
 
-// Output that waits, at the start of an array.
+// Output that waits, at the start of an array: memory is fixed, and std's `BufWriter` takes an allocator.
 #[derive(Drop)]
 struct Sink {
     bytes: [u8; PIECE_BYTES],

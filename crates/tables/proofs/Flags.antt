@@ -6,7 +6,7 @@ use Prim.Native.Nat.{ℕ, ◌+◌, ◌≤◌, ◌<◌}
 use native.Mathlib.Numerals.{add-one}
 use native.Mathlib.Omega.{arith}
 use borrow.Author.Tests.{eqb-true, eqb-false}
-use lib.ListN.{length, get_or, set, take, drop, replicate, length-set, length-replicate, get_or-replicate}
+use lib.ListN.{length, get_or, set, take, drop, drop_of_length-le, replicate, length-set, length-replicate, get_or-replicate}
 use lib.Seq.{drop-cons, get_or-set_same, get_or-set_other}
 use lib.Dec.{eqb}
 use Rattle.model.specs.Parts.{choose}
@@ -19,6 +19,10 @@ pub flagged_turn : (perm flags : List ℕ) (i : ℕ) → i < length perm
     → flagged (drop i perm) flags ≡ flagged (drop (i + 1) perm) (set flags (get_or perm i 0) 1)
 unfolding flagged
 flagged_turn perm flags i l = rw (drop-cons perm i 0, add-one i) refl
+
+pub flagged_done : (perm flags : List ℕ) (i : ℕ) → length perm ≤ i → flagged (drop i perm) flags ≡ flags
+unfolding flagged
+flagged_done perm flags i past = rw (drop_of_length-le perm past) refl
 
 -- A flag is 0 where it was and no slice is its own.
 flagged_zero : (slices flags : List ℕ) (n : ℕ) → n < length flags

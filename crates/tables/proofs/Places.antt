@@ -6,10 +6,10 @@ use Prim.Native.Nat.{ℕ, suc, ◌+◌, ◌≤◌, ◌<◌}
 use native.Mathlib.Numerals.{add-one}
 use native.Mathlib.Omega.{arith}
 use borrow.Author.Tests.{lt-ltb, le-ltb, eq-eqb, ne_eqb}
-use lib.ListN.{length, get_or, drop}
+use lib.ListN.{length, get_or, drop, drop_of_length-le}
 use lib.Seq.{drop-cons}
 use lib.Dec.{ltb, eqb}
-use Rattle.model.specs.declared.Search.TheVariants.{Free, Bad}
+use Rattle.model.specs.declared.Search.TheVariants.{Free, Bad, Full}
 use Rattle.model.specs.Search.{seen, search}
 use Rattle.model.specs.Parts.{choose}
 use Rattle.model.specs.Permutation.{place_of}
@@ -39,6 +39,11 @@ module _ (owners : List ℕ) (p place : ℕ) (perm : List ℕ) (inside : place <
   pub search_next : slice < p → (get_or owners slice 0 ≡ 0 → ⊥)
       → search owners p place (drop place perm) ≡ search owners p (place + 1) (drop (place + 1) perm)
   search_next below taken = search_turn ∙ rw (lt-ltb slice p below, ne_eqb (get_or owners slice 0) 0 taken) refl
+
+-- Past the last place nothing is found.
+pub search_done : (owners : List ℕ) (p place : ℕ) (perm : List ℕ) → length perm ≤ place → search owners p place (drop place perm) ≡ Full
+unfolding search
+search_done owners p place perm past = rw (drop_of_length-le perm past) refl
 
 -- The place of a slice, as std finds it.
 taken_step : (b : Bool) (n : ℕ) → choose b 0 (suc n) ≡ cond b 0 (1 + n)

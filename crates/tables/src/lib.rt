@@ -85,6 +85,7 @@ pub fn assign(
 }
 
 // A slice given back by a logical slice of a volume: its entry is the mark, and its owner 0 (document 02, P5).
+// Not one function with `assign`: entry and owner as two more arguments are no plainer than the two stores here.
 pub fn unassign(
     maps: &mut [u32],
     owners: &mut [u8],
@@ -105,6 +106,7 @@ pub fn unassign(
 // ---- the permutation
 
 // One flag for each slice that the permutation names, in scratch memory of its own, so that the lent tables stay.
+#[tactic(auto, using(crate::proofs::Flags::flagged_done))]
 fn flag_named(perm: &[u32], named: &mut [u8])
     ensures { named.new ≡ flagged perm.now named.old }
 {
@@ -148,6 +150,7 @@ pub fn place_of(perm: &[u32], slice: usize) -> usize
 }
 
 // The first place of the permutation, from a start on, whose slice is free.
+#[tactic(auto, using(crate::proofs::Places::search_bad, crate::proofs::Places::search_free, crate::proofs::Places::search_next, crate::proofs::Places::search_done), unfolding(model::specs::Search::first_free))]
 pub fn first_free(owners: &[u8], perm: &[u32], start: usize) -> Search
     ensures { result ≡ first_free owners.now (length owners.now) start perm.now }
 {

@@ -170,7 +170,7 @@ module _ (w : State) (s : SoundState w) where
 
   -- The state after a counted frame, with what it leaves held.
   abbrev leaving : Held → State
-  leaving h = record { sized = w.sized; shuffled = w.shuffled; counted = w.counted + 1; perm = w.perm; held = h }
+  leaving h = record w { counted = w.counted + 1; held = h }
 
   module _ (room : w.counted < 4096) where
     leaving_sound : (h : Held) → geometry h ≡ geometry w.held → h.position ≤ w.held.position + 4112 → (w.sized ≡ true → FitsOf h)

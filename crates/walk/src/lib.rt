@@ -64,7 +64,7 @@ pub struct Fed {
     pub length: usize,
 }
 
-// A walk, and what is kept of its unfinished line, at the start of an array.
+// A walk, and what is kept of its unfinished line, at the start of an array: memory is fixed, there is no heap.
 #[derive(Drop)]
 pub struct LineReader {
     pub walk: Walk,

@@ -1,10 +1,11 @@
 -- `frames::on_claim` meets its contract. Assumes nothing.
+use Prim.Native.Nat.{◌+◌}
 use mathlib.Core.Path.{ap, ap₂}
 use mathlib.Core.Bool.{Bool, ◌&&◌}
 use Rattle.refusals.specs.declared.Refusal.TheVariants.{MalformedLine, NotOpen}
 use Rattle.claims.specs.Answers.{state_of}
 use Rattle.claims.proofs.Claims.{refused_answers}
-use Rattle.frames.proofs.Frames.{counted_once, on_claim_length, on_claim_late, on_claim_early, on_claim_write}
+use Rattle.frames.proofs.Frames.{on_claim_length, on_claim_late, on_claim_early, on_claim_write}
 use Rattle.frames.proofs.on_claim.Goals as goal
 
 pub returns-then-fields-ne5 : goal.returns-then-fields-ne5
@@ -17,14 +18,14 @@ returns-then-walk-ge-MOST_CLAIMS c =
 pub returns-then-not-walk : goal.returns-then-not-walk
 returns-then-not-walk c =
     let w = c.args.walk.now in
-    refused_answers (counted_once w) NotOpen
+    refused_answers (record w { counted = w.counted + 1 }) NotOpen
     (on_claim_early _ c.args.fields.now c.if-fields-ne5.false c.if-walk-ge-MOST_CLAIMS.false
     (ap (λ (b : Bool). b && w.shuffled) c.if-not-walk.true))
 
 pub returns-then-not-walk-2 : goal.returns-then-not-walk-2
 returns-then-not-walk-2 c =
     let w = c.args.walk.now in
-    refused_answers (counted_once w) NotOpen
+    refused_answers (record w { counted = w.counted + 1 }) NotOpen
     (on_claim_early _ c.args.fields.now c.if-fields-ne5.false c.if-walk-ge-MOST_CLAIMS.false
     (ap₂ (λ (a b : Bool). a && b) c.if-not-walk.false c.if-not-walk-2.true))
 

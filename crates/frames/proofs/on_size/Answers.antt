@@ -2,7 +2,7 @@
 use mathlib.Core.Path.{◌≡◌, sym}
 use native.Mathlib.Omega.{arith}
 use borrow.Author.Rules.{rules}
-use lib.ListN.{length}
+use lib.ListN.{length, replicate}
 use Rattle.refusals.specs.declared.Refusal.TheVariants.{BadGeometry, MalformedLine}
 use Rattle.std.proofs.lemmas.Result.{err_from_is_err_and}
 use Rattle.claims.proofs.Claims.{refused_answers}
@@ -35,6 +35,7 @@ returns c =
     let read : record { b = c.from.result; s = c.from-2.result; p = c.from-3.result } ≡ size_of c.args.fields.now = cc in
     let maps : length w.maps ≡ 3840 = search (rules, c.well_formed) in
     let owners : length w.owners ≡ 256 = search (rules, c.well_formed) in
+    let cleared : c.fill.new.self ≡ replicate (length w.owners) 0 = search rules in
     accepted-answers
-    (state_of_empty _ _ _ _ w.perm (length w.maps) (length w.owners) c.unmap.ensures c.clear.ensures (omega arith) (omega arith))
+    (state_of_empty _ _ _ _ w.perm (length w.maps) (length w.owners) c.unmap.ensures cleared (omega arith) (omega arith))
     (on_size_accepted _ _ c.if-fields-ne6.false c.if-walk.false _ read c.if-g-gt-MOST_SLICES.false (sym c.in_ok-check_geometry.ensures))
