@@ -159,17 +159,8 @@ pub extern "C" fn hiwalgam_bench_bare_counter_mode(
         (length out.old) }
     ensures output { out.new ≡ unless_refused result (ctr key.now iv.now text.now) out.old }
 {
-    if key.len() != 32 {
-        return 3;
-    }
-    if iv.len() != 16 {
-        return 13;
-    }
-    if text.len() > 4096 {
-        return 13;
-    }
-    if out.len() != text.len() {
-        return 13;
+    if let Err(refused) = ctr::check_lengths(key.len(), iv.len(), text.len(), out.len()) {
+        return u8::from(refused);
     }
     let t = field::sbox_table();
     let keys = aes::round_keys(&t, key);
