@@ -4,95 +4,58 @@
 // Keys and tape are fixed bytes here, so that each run prints the same; a real device has them drawn at random.
 #![tactic(auto)]
 
-use model::{Change, Geometry, OpenAnswer, ReleaseAnswer, Session, WriteAnswer};
-use refusals::Answer;
+use model::{Change, Geometry, Session, WriteAnswer};
+use refusals::Refusal;
 use std::io;
 
 // ---- printing
 
-fn say(to: &impl Print, text: &[u8]) -> io::Result<()> {
-    to.write_all(text)
-}
-
-fn say_number(to: &impl Print, n: usize) -> io::Result<()> {
-    to.print(n)
-}
-
 fn say_position(to: &impl Print, position: usize) -> io::Result<()> {
-    say(to, b", tape position ")?;
-    say_number(to, position)?;
-    say(to, b"\n")
+    println!(to; ", tape position {position}")
 }
 
-// The slices in the order in which claims look for a free one.
-fn say_order(to: &impl Print, perm: &[u32]) -> io::Result<()> {
-    say(to, b", order")?;
-    let mut i = 0;
-    while i < perm.len() {
-        say(to, b" ")?;
-        say_number(to, perm[i] as usize)?;
-        i += 1;
-    }
-    Ok(())
-}
-
-// The logical slices of each open volume: above the opened one the count is 0.
-fn say_slices(to: &impl Print, counts: [usize; 15]) -> io::Result<()> {
-    say(to, b", slices of its volumes")?;
-    let mut v = 0;
-    while v < 15 {
-        if counts[v] != 0 {
-            say(to, b" ")?;
-            say_number(to, counts[v])?;
-        }
-        v += 1;
-    }
-    Ok(())
+fn say_refusal(to: &impl Print, refusal: Refusal) -> io::Result<()> {
+    print!(to; "refused, {}", u8::from(refusal))
 }
 
 fn say_open(
     to: &impl Print,
-    answer: OpenAnswer,
+    answer: Result<usize, Refusal>,
     start: usize,
     counts: [usize; 15],
 ) -> io::Result<()> {
     match answer {
-        OpenAnswer::Opened(k) => {
-            say(to, b"opened to volume ")?;
-            say_number(to, k)?;
-            say(to, b", start place ")?;
-            say_number(to, start)?;
-            say_slices(to, counts)?;
+        Ok(k) => {
+            print!(to; "opened to volume {k}, start place {start}, slices of its volumes")?;
+            // Above the opened volume the count is 0.
+            for n in &counts[..] {
+                if *n != 0 {
+                    print!(to; " {n}")?;
+                }
+            }
         }
-        OpenAnswer::Refused(r) => {
-            say(to, b"refused, ")?;
-            say_number(to, refusals::refusal_number(r) as usize)?;
-        }
+        Err(r) => say_refusal(to, r)?,
     }
-    say(to, b"\n")
+    println!(to)
 }
 
 fn say_write(to: &impl Print, answer: WriteAnswer, position: usize) -> io::Result<()> {
     match answer {
-        WriteAnswer::Served { change, probes } => {
-            match change {
-                Change::Claimed(slice) => {
-                    say(to, b"claimed slice ")?;
-                    say_number(to, slice)?;
-                }
-                Change::Rewritten(slice) => {
-                    say(to, b"rewrote slice ")?;
-                    say_number(to, slice)?;
-                }
-            }
-            say(to, b", places looked at ")?;
-            say_number(to, probes)?;
+        WriteAnswer::Served {
+            change: Change::Claimed(slice),
+            probes,
+        } => {
+            print!(to; "claimed slice {slice}, places looked at {probes}")?;
+        }
+        WriteAnswer::Served {
+            change: Change::Rewritten(slice),
+            probes,
+        } => {
+            print!(to; "rewrote slice {slice}, places looked at {probes}")?;
         }
         WriteAnswer::Refused { refusal, probes } => {
-            say(to, b"refused, ")?;
-            say_number(to, refusals::refusal_number(refusal) as usize)?;
-            say(to, b", places looked at ")?;
-            say_number(to, probes)?;
+            say_refusal(to, refusal)?;
+            print!(to; ", places looked at {probes}")?;
         }
     }
     say_position(to, position)
@@ -100,32 +63,22 @@ fn say_write(to: &impl Print, answer: WriteAnswer, position: usize) -> io::Resul
 
 fn say_release(
     to: &impl Print,
-    answer: ReleaseAnswer,
+    answer: Result<usize, Refusal>,
     start: usize,
     position: usize,
 ) -> io::Result<()> {
     match answer {
-        ReleaseAnswer::Freed(slice) => {
-            say(to, b"freed slice ")?;
-            say_number(to, slice)?;
-        }
-        ReleaseAnswer::Refused(r) => {
-            say(to, b"refused, ")?;
-            say_number(to, refusals::refusal_number(r) as usize)?;
-        }
+        Ok(slice) => print!(to; "freed slice {slice}")?,
+        Err(r) => say_refusal(to, r)?,
     }
-    say(to, b", start place ")?;
-    say_number(to, start)?;
+    print!(to; ", start place {start}")?;
     say_position(to, position)
 }
 
-fn say_answer(to: &impl Print, answer: Answer) -> io::Result<()> {
+fn say_answer(to: &impl Print, answer: Result<(), Refusal>) -> io::Result<()> {
     match answer {
-        Answer::Served => say(to, b"served"),
-        Answer::Refused(r) => {
-            say(to, b"refused, ")?;
-            say_number(to, refusals::refusal_number(r) as usize)
-        }
+        Ok(()) => print!(to; "served"),
+        Err(r) => say_refusal(to, r),
     }
 }
 
@@ -148,17 +101,15 @@ fn caller_key(i: usize) -> [u8; 32] {
 // The keys of volumes 0 and 1 end to end.
 fn caller_keys() -> [u8; 64] {
     let mut keys = [0u8; 64];
-    places::store(&mut keys, 0, &caller_key(0));
-    places::store(&mut keys, 32, &caller_key(1));
+    keys[..32].copy_from_slice(&caller_key(0));
+    keys[32..].copy_from_slice(&caller_key(1));
     keys
 }
 
 // Bytes that differ from place to place, for the tape.
 fn fill(bytes: &mut [u8]) {
-    let mut i = 0;
-    while i < bytes.len() {
-        bytes[i] = (i % 251) as u8;
-        i += 1;
+    for (i, b) in bytes.iter_mut().enumerate() {
+        *b = (i % 251) as u8;
     }
 }
 
@@ -166,41 +117,40 @@ fn fill(bytes: &mut [u8]) {
 
 fn show_format(
     to: &impl Print,
-    words: &[u8],
+    words: &str,
     device: &mut [u8],
     keys: &[u8],
     tape: &[u8],
     at: &mut usize,
 ) -> io::Result<()> {
-    say(to, words)?;
+    print!(to; "format with {words}: ")?;
     let counts = [4usize, 2];
     let answer = lending::format_at(device, geometry(), 2, keys, &counts, tape, at);
     say_answer(to, answer)?;
-    let position = *at;
-    say_position(to, position)
+    say_position(to, *at)
 }
 
 // The device is made, with 4 logical slices for volume 0 and 2 for volume 1: not with one key for both volumes, since it would open
 // the lower one alone.
 fn show_making(to: &impl Print, device: &mut [u8], tape: &[u8], at: &mut usize) -> io::Result<()> {
     let twice = [1u8; 64];
-    show_format(to, b"format with one key twice: ", device, &twice, tape, at)?;
+    show_format(to, "one key twice", device, &twice, tape, at)?;
     let keys = caller_keys();
-    show_format(to, b"format with keys 0 and 1: ", device, &keys, tape, at)
+    show_format(to, "keys 0 and 1", device, &keys, tape, at)
 }
 
 fn show_shuffle(to: &impl Print, perm: &mut [u32], tape: &[u8], at: &mut usize) -> io::Result<()> {
-    say(to, b"shuffle a list of ")?;
-    say_number(to, perm.len())?;
-    say(to, b" places: ")?;
+    print!(to; "shuffle a list of {} places: ", perm.len())?;
     let answer = lending::shuffle_at(geometry(), perm, tape, at);
     say_answer(to, answer)?;
-    match answer {
-        Answer::Served => say_order(to, perm)?,
-        Answer::Refused(_) => {}
+    if answer.is_ok() {
+        // The slices in the order in which claims look for a free one.
+        print!(to; ", order")?;
+        for slice in perm {
+            print!(to; " {slice}")?;
+        }
     }
-    let position = *at;
-    say_position(to, position)
+    say_position(to, *at)
 }
 
 // The permutation is drawn: not into a list of 3 places, since there are 4 slices.
@@ -218,29 +168,10 @@ fn show_open(
     owners: &mut [u8],
     perm: &[u32],
 ) -> io::Result<Session> {
-    say(to, b"open with key ")?;
-    say_number(to, key)?;
-    say(to, b": ")?;
+    print!(to; "open with key {key}: ")?;
     let o = opening::open(device, geometry(), &caller_key(key), maps, owners, perm);
-    let answer = o.answer;
-    let session = o.session;
-    let counts = session.counts;
-    say_open(to, answer, session.start, counts)?;
-    Ok(session)
-}
-
-// The first bytes of a block that was read.
-fn show_bytes(to: &impl Print, buf: &[u8]) -> io::Result<()> {
-    if 4 <= buf.len() {
-        say(to, b", the block begins")?;
-        let mut i = 0;
-        while i < 4 {
-            say(to, b" ")?;
-            say_number(to, buf[i] as usize)?;
-            i += 1;
-        }
-    }
-    Ok(())
+    say_open(to, o.answer, o.session.start, o.session.counts)?;
+    Ok(o.session)
 }
 
 fn show_read(
@@ -252,20 +183,17 @@ fn show_read(
     volume: usize,
     address: usize,
 ) -> io::Result<()> {
-    say(to, b"read block ")?;
-    say_number(to, address)?;
-    say(to, b" of volume ")?;
-    say_number(to, volume)?;
-    say(to, b": ")?;
+    print!(to; "read block {address} of volume {volume}: ")?;
     let mut buf = [255u8; 1024];
     let r = reading::read(device, maps, owners, session, volume, address, &mut buf);
-    let answer = r.answer;
-    say_answer(to, answer)?;
-    match answer {
-        Answer::Served => show_bytes(to, &buf)?,
-        Answer::Refused(_) => {}
+    say_answer(to, r.answer)?;
+    if r.answer.is_ok() {
+        print!(to; ", the block begins")?;
+        for b in &buf[..4] {
+            print!(to; " {b}")?;
+        }
     }
-    say(to, b"\n")
+    println!(to)
 }
 
 // Block 5 written, with bytes that tell the session.
@@ -281,16 +209,12 @@ fn show_write(
     volume: usize,
     n: usize,
 ) -> io::Result<()> {
-    say(to, b"write block 5 of volume ")?;
-    say_number(to, volume)?;
-    say(to, b": ")?;
+    print!(to; "write block 5 of volume {volume}: ")?;
     let text = [(1 + n % 3) as u8; 1024];
     let w = lending::write_at(
         device, maps, owners, perm, tape, at, session, volume, 5, &text,
     );
-    let position = *at;
-    let answer = w.answer;
-    say_write(to, answer, position)
+    say_write(to, w.answer, *at)
 }
 
 fn show_find(
@@ -300,9 +224,8 @@ fn show_find(
     owners: &[u8],
     session: Session,
 ) -> io::Result<()> {
-    say(to, b"find block 5 of volume 0: a part of ")?;
-    say_number(to, reading::find(device, maps, owners, session, 0, 5).len())?;
-    say(to, b" bytes\n")
+    let found = reading::find(device, maps, owners, session, 0, 5).len();
+    println!(to; "find block 5 of volume 0: a part of {found} bytes")
 }
 
 fn show_release(
@@ -316,14 +239,9 @@ fn show_release(
     session: Session,
     volume: usize,
 ) -> io::Result<()> {
-    say(to, b"release logical slice 1 of volume ")?;
-    say_number(to, volume)?;
-    say(to, b": ")?;
+    print!(to; "release logical slice 1 of volume {volume}: ")?;
     let r = lending::release_at(device, maps, owners, perm, tape, at, session, volume, 1);
-    let position = *at;
-    let answer = r.answer;
-    let left = r.session;
-    say_release(to, answer, left.start, position)
+    say_release(to, r.answer, r.session.start, *at)
 }
 
 fn show_close(
@@ -333,13 +251,11 @@ fn show_close(
     owners: &mut [u8],
     session: Session,
 ) -> io::Result<Session> {
-    say(to, b"close: ")?;
+    print!(to; "close: ")?;
     let r = closing::close(device, maps, owners, session);
-    let answer = r.answer;
-    say_answer(to, answer)?;
-    say(to, b"\n")?;
-    let closed = r.session;
-    Ok(closed)
+    say_answer(to, r.answer)?;
+    println!(to)?;
+    Ok(r.session)
 }
 
 // ---- the sessions: each has tables of its own, so that nothing but the device tells it what those before it did
@@ -371,7 +287,7 @@ fn show_session(
             session,
             volume,
             n,
-        )?;
+        )
     } else {
         show_release(
             to,
@@ -383,9 +299,8 @@ fn show_session(
             at,
             session,
             volume,
-        )?;
+        )
     }
-    Ok(())
 }
 
 // A claim, a rewrite, a claim for volume 0, which is open too, a release, and one that is refused, since there is no slice.
@@ -397,10 +312,8 @@ fn show_sessions(
     at: &mut usize,
 ) -> io::Result<()> {
     let volumes = [1usize, 1, 0, 1, 1];
-    let mut n = 0;
-    while n < 5 {
-        show_session(to, device, perm, tape, at, volumes[n], n)?;
-        n += 1;
+    for (n, volume) in volumes.iter().enumerate() {
+        show_session(to, device, perm, tape, at, *volume, n)?;
     }
     Ok(())
 }

@@ -8,10 +8,10 @@ use lib.Dec.{eqb}
 use Rattle.std.specs.Int.{from_bool}
 use lib.ListN.{length, get_or, take, length-append}
 use lib.Seq.{length-take-le}
-use borrow.Author.Tests.{eqb-true, eq-eqb, ne_eqb}
+use borrow.Author.Tests.{eqb-true, ne_eqb}
 use Rattle.model.specs.declared.Geometry.{Geometry}
 use Rattle.model.specs.declared.Session.{Session}
-use Rattle.model.specs.Parts.{choose, part, overlay}
+use Rattle.model.specs.Parts.{part, overlay}
 use Rattle.model.specs.Session.{count_of}
 use Rattle.model.proofs.Parts.{part_first, part_next, part_last, part_left, part_right}
 use Rattle.places.proofs.Parts.{overlay_append, overlay_all}
@@ -48,14 +48,6 @@ session_bytes-length s keys counts =
       keys,
       counts,
     )
-
--- A struct of n bytes, of its size m or another: what a call gives, or what stood.
-module _ {A : Type 0} {n m : ℕ} where
-  pub choose_sized : {x a : A} (b : A) → n ≡ m → x ≡ a → x ≡ choose (eqb n m) a b
-  choose_sized b sized e = rw (eq-eqb n m sized) e
-
-  pub choose_other : (a b : A) → (n ≡ m → ⊥) → b ≡ choose (eqb n m) a b
-  choose_other a b other = rw (ne_eqb n m other) refl
 
 -- Two sizes that are not both right.
 pub not_both : (a m b n : ℕ) → (a ≡ m → b ≡ n → ⊥) → (eqb a m && eqb b n) ≡ false
