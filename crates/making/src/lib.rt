@@ -97,7 +97,7 @@ fn key_below(drawn: &[u8], g: Geometry, n: usize, i: usize) -> [u8; 32]
     below
 }
 
-// The text of header i: VEK, VMK of the volume below, the volume's N (document 02, P4), S.
+// The text of header i: VEK, VMK of the volume below, the volume's N (document 02, P4), S. All four are stored by their places (`overlay`).
 fn header_text(drawn: &[u8], g: Geometry, n: usize, counts: &[usize], i: usize) -> [u8; 72]
     requires { Drawn g n i (length drawn.now) × Counted g.p n counts.now }
     ensures { result ≡ made_text g counts.now drawn.now i }

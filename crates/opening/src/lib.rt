@@ -54,7 +54,7 @@ fn no_session() -> Session
     }
 }
 
-// A refused opening.
+// A refused opening. The answer stands beside the session that is handed back (document 01), so that a step returns this where it refuses.
 fn refused(refusal: Refusal) -> Opening
     ensures { (result.answer ≡ Err refusal) × (result.session ≡ no_session) }
 {
