@@ -15,11 +15,6 @@ use Rattle.places.proofs.Parts.{overlay_append, overlay_all}
 
 -- ---- the text of a header
 
--- Above volume 0 the VMK below is that of the next lower volume.
-pub below_above : (g : Geometry) (drawn : List ℕ) (i : ℕ) → (i ≡ 0 → ⊥) → made_below g drawn i ≡ drawn_vmk g drawn (i - 1)
-below_above g drawn zero h = absurd (h refl)
-below_above g drawn (suc i) h = let low : i ≡ suc i - 1 = omega arith in ap (drawn_vmk g drawn) low
-
 -- Four pieces end to end, each stored where the one before it ends, fill what they are stored over.
 pub four_pieces : (s a b c d : List ℕ) (x y z : ℕ) → length a ≡ x → x + length b ≡ y → y + length c ≡ z → z + length d ≡ length s
     → overlay (overlay (overlay (overlay s 0 a) x b) y c) z d ≡ a ++ (b ++ (c ++ d))

@@ -1,18 +1,26 @@
 -- Laws of a test of each number below n. Assumes nothing.
-use Prim.Native.Nat.{ℕ, zero, suc, ◌+◌, ◌<◌}
+use Prim.Native.Nat.{ℕ, zero, suc, ◌<◌, ◌≤◌}
 use mathlib.Core.Path.{◌≡◌, refl, sym, ap, ap₂, ◌∙◌}
 use mathlib.Core.Bool.{Bool, true, false, ◌||◌, or-true}
+use mathlib.Core.List.{List}
 use mathlib.Core.Logic.{⊎_elim}
 use native.Mathlib.Nat.{eq-or-lt_of_le, le_of_suc-le-suc}
 use native.Mathlib.Numerals.{add-one}
 use native.Mathlib.Omega.{arith}
+use lib.ListN.{length, get_or, take}
+use Rattle.std.specs.List.{list_any}
+use Rattle.std.proofs.lemmas.List.Folds.{list_any_more}
 use Rattle.model.specs.Parts.{any_below}
 use Rattle.model.proofs.Tests.{or_false}
 
--- As a loop makes it: one number more that fails.
-pub any_below_turn : (f : ℕ → Bool) (n : ℕ) → any_below f n ≡ false → f n ≡ false → any_below f (n + 1) ≡ false
+-- As the library tests the first n elements of a list.
+pub list_any-below : (f g : ℕ → Bool) (xs : List ℕ) (n : ℕ) → n ≤ length xs → ((i : ℕ) → i < n → f (get_or xs i 0) ≡ g i)
+    → list_any f (take n xs) ≡ any_below g n
 unfolding any_below
-any_below_turn f n none fails = rw (add-one n) (rw (none, fails) refl)
+list_any-below f g xs zero h same = refl
+list_any-below f g xs (suc n) h same =
+    rw (← add-one n) (list_any_more f xs n 0 (omega arith))
+    ∙ ap₂ (λ (a b : Bool). a || b) (list_any-below f g xs n (omega arith) (λ i l. same i (omega arith))) (same n (omega arith))
 
 pub any_below-found : (f : ℕ → Bool) (n i : ℕ) → i < n → f i ≡ true → any_below f n ≡ true
 unfolding any_below

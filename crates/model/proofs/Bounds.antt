@@ -38,9 +38,6 @@ module _ (g : Geometry) (ok : Allowed g) where
   unfolding device_length
   device_length_small = omega (arith, bytes_small g.p (omega arith))
 
-  pub blocks_small : (n : ℕ) → n ≤ g.p → n * g.s ≤ 4096 * 256
-  blocks_small n l = mul-le-mul {n₂ = 4096} {m₂ = 256} (omega (arith, ok.slices_most)) s_small
-
   -- The blocks of i headers, and the bytes up to the first map block of header i.
   pub headers_small : (i : ℕ) → i ≤ 14 → i * (1 + map_blocks g) ≤ 14 * 18
   headers_small i l = mul-le-mul {n₂ = 14} {m₂ = 18} l (omega (arith, map_blocks_small))

@@ -6,10 +6,9 @@ use mathlib.Core.Bool.{Bool, true, false}
 use mathlib.Core.List.{List, [], ◌∷◌}
 use mathlib.Core.Logic.{◌⊎◌, inl, inr, ⊎_elim}
 use native.Mathlib.Omega.{arith}
-use lib.ListN.{length, get_or, drop, drop_of_length-le}
-use lib.Seq.{drop-cons}
+use lib.ListN.{length, get_or}
 use lib.Dec.{eqb}
-use borrow.Author.Tests.{eqb-true, eqb-false, eq-eqb, ne_eqb}
+use borrow.Author.Tests.{eqb-true, eqb-false}
 use Rattle.model.specs.Parts.{choose}
 use Rattle.model.specs.Permutation.{place_of}
 use Rattle.model.specs.Conditions.{slice_at, Names}
@@ -127,17 +126,3 @@ place_of_first ψ (φ ∷ perm) n l e = go (place_of_first ψ perm) (eqb φ ψ) 
 
 pub names_place : (p : ℕ) (perm : List ℕ) (ψ : ℕ) → Names p perm → ψ < p → Placed ψ perm (place_of ψ perm)
 names_place p perm ψ names l = let e = names.each ψ l in place_of_first ψ perm e.0 e.1 e.2
-
--- Place by place.
-module _ (ψ : ℕ) (perm : List ℕ) (n : ℕ) where
-  pub place_of_here : n < length perm → slice_at perm n ≡ ψ → place_of ψ (drop n perm) ≡ 0
-  unfolding place_of
-  place_of_here l e = rw (drop-cons perm n 0 l, eq-eqb (slice_at perm n) ψ e) refl
-
-  pub place_of_next : n < length perm → (slice_at perm n ≡ ψ → ⊥) → place_of ψ (drop n perm) ≡ suc (place_of ψ (drop (suc n) perm))
-  unfolding place_of
-  place_of_next l ne = rw (drop-cons perm n 0 l, ne_eqb (slice_at perm n) ψ ne) refl
-
-  pub place_of_end : length perm ≤ n → place_of ψ (drop n perm) ≡ 0
-  unfolding place_of
-  place_of_end l = rw (drop_of_length-le perm l) refl

@@ -1,6 +1,6 @@
 -- Laws of the structs: how long they are, that they read back, and how code puts them together. Assumes nothing.
 use mathlib.Core.Path.{◌≡◌, refl, sym, ap, ap₂, ◌∙◌, subst}
-use mathlib.Core.Bool.{Bool, true, false, ◌&&◌}
+use mathlib.Core.Bool.{Bool, true, false}
 use mathlib.Core.List.{List, [], ◌++◌, append-nil}
 use Prim.Native.Nat.{ℕ, ◌+◌, ◌*◌, ◌^◌, ◌<◌}
 use native.Mathlib.Omega.{arith}
@@ -8,7 +8,7 @@ use lib.Dec.{eqb}
 use Rattle.std.specs.Int.{from_bool}
 use lib.ListN.{length, get_or, take, length-append}
 use lib.Seq.{length-take-le}
-use borrow.Author.Tests.{eqb-true, ne_eqb}
+use borrow.Author.Tests.{ne_eqb}
 use Rattle.model.specs.declared.Geometry.{Geometry}
 use Rattle.model.specs.declared.Session.{Session}
 use Rattle.model.specs.Parts.{part, overlay}
@@ -48,15 +48,6 @@ session_bytes-length s keys counts =
       keys,
       counts,
     )
-
--- Two sizes that are not both right.
-pub not_both : (a m b n : ℕ) → (a ≡ m → b ≡ n → ⊥) → (eqb a m && eqb b n) ≡ false
-not_both a m b n h = go (eqb a m) refl (eqb b n) refl
-  where
-    go : (x : Bool) → eqb a m ≡ x → (y : Bool) → eqb b n ≡ y → (x && y) ≡ false
-    go false e y f = refl
-    go true e false f = refl
-    go true e true f = absurd (h (eqb-true a m e) (eqb-true b n f))
 
 -- ---- reading back
 

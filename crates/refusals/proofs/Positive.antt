@@ -1,9 +1,7 @@
 -- No refusal has the number 0, which stands for served. Assumes nothing.
 use Prim.Native.Nat.{◌<◌}
-use mathlib.Core.Path.{◌≡◌}
 use native.Mathlib.Omega.{arith}
-use Rattle.refusals.specs.Numbers.{refusal_number, answer_number}
-use Rattle.std.specs.Prelude.{Result, Err}
+use Rattle.refusals.specs.Numbers.{refusal_number}
 use Rattle.refusals.specs.declared.Refusal.{Refusal}
 use Rattle.refusals.specs.declared.Refusal.TheVariants.{BadGeometry, DeviceLength, KeyLength, TableLength, BadPermutation, NoCell, HeaderTag}
 use Rattle.refusals.specs.declared.Refusal.TheVariants.{HeaderGeometry, BadEntry, SliceTwice, VolumeAbove, AddressAbove, WrongLength}
@@ -32,7 +30,3 @@ refusal_positive NoFreeSlice = omega arith
 refusal_positive KeyCount = omega arith
 refusal_positive LowerCell = omega arith
 refusal_positive SliceUnmapped = omega arith
-
--- Nor has an answer that refuses.
-pub answer_positive : {A : Type 0} {a : Result A Refusal} {r : Refusal} → a ≡ Err r → 0 < answer_number a
-answer_positive {r = r} e = rw e (refusal_positive r)

@@ -13,7 +13,8 @@ use Rattle.model.specs.Parts.{choose}
 use Rattle.model.specs.Permutation.{member, missing}
 use Rattle.std.specs.List.{list_any}
 use Rattle.tables.specs.Flagged.{flagged}
-use Rattle.tables.proofs.Below.{list_any-below, any_below-missing}
+use Rattle.model.proofs.Below.{list_any-below}
+use Rattle.tables.proofs.Below.{any_below-missing}
 
 pub flagged_turn : (perm flags : List ℕ) (i : ℕ) → i < length perm
     → flagged (drop i perm) flags ≡ flagged (drop (i + 1) perm) (set flags (get_or perm i 0) 1)
