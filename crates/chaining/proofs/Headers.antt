@@ -68,8 +68,11 @@ module _ (g : Geometry) where
         let e : open_header vmk i header ≡ Text (gcm_text vmk (part 0 12 header) (part 12 72 header)) = open_header_test vmk header i right opens in
         let same_text = output ∙ ap (λ (o : Opened). opened_over o old) e in
         let test : bad ≡ bad_count g.p (slice_count text) = tested ∙ ap (bad_count g.p) counted in
-        rw e (same_text, h ∙ ap (λ (b : Bool). choose (b || not (eqb (number_at 68 text) g.s)) 8 0) test
-        ∙ ap (λ (x : List ℕ). choose (bad_header g x) 8 0) same_text)
+        rw e (
+          same_text,
+          h ∙ ap (λ (b : Bool). choose (b || not (eqb (number_at 68 text) g.s)) 8 0) test
+              ∙ ap (λ (x : List ℕ). choose (bad_header g x) 8 0) same_text,
+        )
 
     pub count_bad : bad ≡ true → HeaderOpened g (open_header vmk i header) 8 text
     count_bad e = answered 8 (sym (rw e))

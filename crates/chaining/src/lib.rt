@@ -13,7 +13,13 @@ use model::Geometry;
 use refusals::Refusal;
 
 // Header i, read from the part of the device that starts at its own block: its 72 bytes into text, or 7; then 8.
-fn open_header(header: &[u8], g: Geometry, i: usize, vmk: &[u8], text: &mut [u8]) -> Result<(), Refusal>
+fn open_header(
+    header: &[u8],
+    g: Geometry,
+    i: usize,
+    vmk: &[u8],
+    text: &mut [u8],
+) -> Result<(), Refusal>
     requires { (100 ≤ length header.now) × (i < 15) × (length vmk.now ≡ 32) × (length text.old ≡ 72) }
     ensures { HeaderOpened g (open_header vmk.now i header.now) (answer_number result) text.new }
 {

@@ -130,7 +130,14 @@ pub fn open_into(key: &[u8], iv: &[u8], aad: &[u8], text: &[u8], tag: &[u8], out
 
 // The refusal of either call for the lengths of what it was handed: 3 or 13.
 #[tactic(auto, using(std::proofs::lemmas::Bool::Decides::nat_tests), unfolding(crate::specs::Call::gcm_refusal, refusals::specs::Numbers::refuse))]
-fn lengths_refusal(key: usize, iv: usize, aad: usize, text: usize, tag: usize, out: usize) -> Result<(), Refusal>
+fn lengths_refusal(
+    key: usize,
+    iv: usize,
+    aad: usize,
+    text: usize,
+    tag: usize,
+    out: usize,
+) -> Result<(), Refusal>
     ensures { answer_number result ≡ gcm_refusal key iv aad text tag out 0 }
 {
     if key != 32 {
@@ -184,7 +191,14 @@ pub fn seal(
 }
 
 // A ciphertext of 0 to 256 bytes opened, or refusal 3, 13 or 15, by which the output stays as it was.
-pub fn open(key: &[u8], iv: &[u8], aad: &[u8], text: &[u8], tag: &[u8], out: &mut [u8]) -> Result<(), Refusal>
+pub fn open(
+    key: &[u8],
+    iv: &[u8],
+    aad: &[u8],
+    text: &[u8],
+    tag: &[u8],
+    out: &mut [u8],
+) -> Result<(), Refusal>
     ensures answer { answer_number result ≡ open_refusal key.now iv.now aad.now text.now
         tag.now out.old }
     ensures output { out.new ≡ unless_refused (answer_number result) (gcm_text key.now iv.now text.now)
