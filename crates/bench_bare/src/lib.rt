@@ -2,7 +2,8 @@
 //
 // The key schedule is a bare array of 240 bytes, lent from function to function, and a byte of MIXCOLUMNS takes two products.
 // It is proved like the rest, so that the benchmark compares two forms of one definition.
-// What it has in common with `aes` and `ctr`, and its loops, stand here as they were: shared or rewritten, the form measured would move.
+// What it has in common with `aes` and `ctr`, and its loops, stand here as they were, but for the tests of lengths: shared or rewritten, the
+// form measured would move.
 #![tactic(auto)]
 
 ghost use Rattle.std.specs.Prelude.{◌≡◌, ◌+◌, ◌*◌, ◌/◌, ◌^◌, ◌<◌, ◌≤◌, length};

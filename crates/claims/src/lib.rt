@@ -58,7 +58,7 @@ fn all_open(g: Geometry, start: usize) -> Session
         k: 14,
         keys: [0u8; 480],
         opened: true,
-        start: start,
+        start,
         counts: [g.p; 15],
     }
 }
@@ -74,9 +74,9 @@ impl Walk {
         self.position += drawn;
         self.start += probes;
         WalkReply::Served {
-            slice: slice,
+            slice,
             block: places::block_start(g, slice, j) / g.b,
-            probes: probes,
+            probes,
             position: self.position,
         }
     }

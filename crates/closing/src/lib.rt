@@ -28,6 +28,7 @@ pub fn close(device: &[u8], maps: &mut [u32], owners: &mut [u8], session: Sessio
         (close_model (length device.now) (held maps.old owners.old position session))
         device.now (close_result result.answer) device.now maps.new owners.new position result.session }
 {
+    // No `?`: the session is handed back beside the answer (document 01).
     let standing = requests::check_standing(device.len(), maps.len(), owners.len(), session);
     if let Err(refusal) = standing {
         return Reply {

@@ -80,6 +80,7 @@ pub fn decide(
     ensures { (text bytes : List ℕ) → length text ≡ len → length bytes ≡ tape
         → Decided device (held maps.now owners.now position session) volume address text perm.now bytes result }
 {
+    // No `?`: a decision has four outcomes, and a refusal among them that moves the start place.
     if let Err(refusal) = write_refusal(
         device,
         maps,

@@ -1,7 +1,7 @@
 // Formatting a blank device: it is filled from the tape, then gets its key cells, headers and empty maps.
 //
-// `format` is the public call: any arguments, the tape position lent as one record. It is a straight line: the refusals, the draw, and
-// the carrying out (`making::carry_out`). What the device held before is never read.
+// `format` is the public call: any arguments, the tape position lent as one record. It tests all refusals, draws once, and carries out
+// (`making::carry_out`). What the device held before is never read.
 #![tactic(auto)]
 
 ghost use Rattle.std.specs.Prelude.{◌≡◌, ◌*◌, ◌≤◌, length};

@@ -58,6 +58,7 @@ pub fn read(
         owners.now session volume address (length buf.old)) buf.old }
     ensures session { result.session ≡ session }
 {
+    // No `?`: the session is handed back beside the answer (document 01).
     let refused = read_refusal(
         device.len(),
         maps,

@@ -71,6 +71,7 @@ fn counts_in(r: &[u8]) -> [usize; 15]
     ensures { result ≡ numbers_at 15 528 r.now }
 {
     let mut counts = [0usize; 15];
+    // By index, since each is read at a place of its own.
     for i in 0..15 {
         counts[i] = eight_at(r, 528 + 8 * i);
     }

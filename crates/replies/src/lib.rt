@@ -1,6 +1,5 @@
 // The answers of a write and a release as the C functions hand them over (include/hiwalgam.h): the struct of a write's answer and its
-// number, and the slice that a release freed. What a formatting and a shuffle hand over is a definition
-// alone (`LentHanded`), with its laws.
+// number, and the slice that a release freed. What a formatting and a shuffle hand over is a definition alone (`LentHanded`), with its laws.
 #![tactic(auto)]
 
 ghost use Rattle.std.specs.Prelude.{◌≡◌, length};

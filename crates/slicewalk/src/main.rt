@@ -69,6 +69,7 @@ fn walk_piece(
 ) -> io::Result<()> {
     let mut out = [0u8; OUTPUT_BYTES];
     let mut rest = piece;
+    // A while: a turn takes as much as the line has.
     while 0 < rest.len() {
         let fed = reader.feed(rest, &mut out);
         sink.put(to, &out[..fed.length])?;

@@ -88,21 +88,23 @@ impl LineReader {
         let taken = n + 1;
         let length = step(&mut self.walk, &self.line[..self.used], out);
         self.used = 0;
-        Fed {
-            taken: taken,
-            length: length,
-        }
+        Fed { taken, length }
     }
 
-    // The end of the input: the output line of a last line without byte 0a, if there is one.
-    pub fn finish(&mut self, out: &mut [u8; OUTPUT_BYTES]) -> usize
-        ensures { Writes (finish·of (reader_of self.old)) out.old out.new result }
+    // The end of the input, after which there is no reader: the output line of a last line without byte 0a, if there is one.
+    pub fn finish(self, out: &mut [u8; OUTPUT_BYTES]) -> usize
+        ensures { Writes (finish·of (reader_of self)) out.old out.new result }
     {
-        if self.used == 0 {
+        let LineReader {
+            mut walk,
+            line,
+            used,
+        } = self;
+        if used == 0 {
             return 0;
         }
-        let kept = self.used.min(LINE_BYTES);
-        step(&mut self.walk, &self.line[..kept], out)
+        let kept = used.min(LINE_BYTES);
+        step(&mut walk, &line[..kept], out)
     }
 
     // More of a line behind what is kept of it, as far as 1,027 bytes go.
