@@ -141,12 +141,23 @@ pub fn clear(buf: &mut [u8])
     buf.fill(0);
 }
 
+// The bytes of src into dst, which is as long. In a loop: std's `copy_from_slice`, where it comes to stand in line, makes the static library
+// need `memmove`.
+pub fn copy(dst: &mut [u8], src: &[u8])
+    requires { length dst.old ≡ length src.now }
+    ensures { dst.new ≡ src.now }
+{
+    for i in 0..src.len() {
+        dst[i] = src[i];
+    }
+}
+
 // Bytes over what stood from a place on.
 pub fn store(device: &mut [u8], at: usize, d: &[u8])
     requires { at + length d.now ≤ length device.old }
     ensures { device.new ≡ overlay device.old at d.now }
 {
-    device[at..at + d.len()].copy_from_slice(d);
+    copy(&mut device[at..at + d.len()], d);
 }
 
 // ---- numbers

@@ -9,5 +9,5 @@ use Rattle.places.proofs.store.Goals as goal
 pub returns : goal.returns
 returns c =
     let a = c.args in
-    rw c.copy_from_slice.ensures.after
+    rw c.copy.ensures
     (overlay_lent a.at (a.at + length a.d.now) a.device.now a.d.now refl (search rules))
