@@ -128,6 +128,5 @@ pub fn format(
 {
     format_refusal(device.len(), g, volumes, keys, counts, tape, position.at)?;
     let drawn = tape::draw(tape, position, tape_need(g, volumes));
-    making::carry_out(device, g, volumes, keys, counts, drawn);
-    Ok(())
+    making::carry_out(device, g, volumes, keys, counts, drawn, Ok(()))
 }

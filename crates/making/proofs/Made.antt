@@ -1,5 +1,5 @@
 -- What a formatting stores, piece by piece, is what the model says. Assumes nothing.
-use Prim.Native.Nat.{ℕ, zero, suc, ◌+◌, ◌-◌}
+use Prim.Native.Nat.{ℕ, ◌+◌}
 use mathlib.Core.Path.{◌≡◌, refl, sym, ap, ◌∙◌}
 use mathlib.Core.List.{List, ◌++◌, append_assoc}
 use native.Mathlib.Nat.{zero-add}
@@ -9,7 +9,7 @@ use lib.ListN.{length, length-append}
 use Rattle.model.specs.declared.Geometry.{Geometry}
 use Rattle.model.specs.Parts.{overlay, patched}
 use Rattle.model.specs.Geometry.{cell_start, header_start, map_start}
-use Rattle.model.specs.Format.{drawn_vmk, sealed, made_cell, made_below, made_header, made_map, cell_patches, header_patches}
+use Rattle.model.specs.Format.{sealed, made_cell, made_header, made_map, cell_patches, header_patches}
 use Rattle.model.proofs.Parts.{patched-++}
 use Rattle.places.proofs.Parts.{overlay_append, overlay_all}
 

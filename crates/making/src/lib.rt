@@ -6,6 +6,7 @@
 #![tactic(auto)]
 
 ghost use Rattle.std.specs.Prelude.{◌≡◌, ◌+◌, ◌*◌, ◌≤◌, ◌<◌, length};
+ghost use Rattle.refusals.specs.Numbers.{answer_number, unless_refused};
 ghost use Rattle.model.specs.Parts.{part, overlay, patched};
 ghost use Rattle.model.specs.Geometry.{Allowed, device_length, cell_start, header_start, map_start};
 ghost use Rattle.model.specs.Format.{drawn_vmk, drawn_vek, cell_iv, header_iv_at, format_need, made_cell, made_below, made_text, made_header, made_map};
@@ -14,6 +15,7 @@ ghost use Rattle.model.specs.Conditions.{Counted};
 ghost use Rattle.making.specs.Drawn.{Drawn, Makes};
 
 use model::Geometry;
+use refusals::Refusal;
 
 // ---- what is drawn
 
@@ -150,7 +152,7 @@ fn seal_headers(device: &mut [u8], g: Geometry, n: usize, counts: &[usize], draw
 
 // ---- all of it
 
-// A formatting is carried out, with the tape bytes that it needs drawn.
+// A formatting is carried out, with the tape bytes that it needs drawn; where it is refused nothing is done.
 pub fn carry_out(
     device: &mut [u8],
     g: Geometry,
@@ -158,11 +160,17 @@ pub fn carry_out(
     keys: &[u8],
     counts: &[usize],
     drawn: &[u8],
-)
-    requires { Makes g n (length keys.now) (length drawn.now) × Counted g.p n counts.now × (length device.old ≡ device_length g) }
-    ensures { device.new ≡ formatted g n keys.now counts.now drawn.now }
+    answer: Result<(), Refusal>,
+) -> Result<(), Refusal>
+    requires { answer_number answer ≡ 0 → Makes g n (length keys.now) (length drawn.now) × Counted g.p n counts.now
+        × (length device.old ≡ device_length g) }
+    ensures { (result ≡ answer) × (device.new ≡ unless_refused (answer_number answer)
+        (formatted g n keys.now counts.now drawn.now) device.old) }
 {
-    device.copy_from_slice(bytes_at(drawn, 0, device.len()));
+    answer?;
+    let noise = bytes_at(drawn, 0, device.len());
+    places::copy(device, noise);
     seal_cells(device, g, n, keys, drawn);
     seal_headers(device, g, n, counts, drawn);
+    Ok(())
 }

@@ -2,7 +2,7 @@
 -- (`Carries.antt`). Assumes nothing.
 use mathlib.Core.Path.{◌≡◌}
 use borrow.Author.Rules.{rules}
-use Rattle.refusals.specs.Numbers.{refusal_number, answer_number}
+use Rattle.refusals.specs.Numbers.{refusal_number, answer_number, unless_refused}
 use Rattle.formatting.proofs.Carries.{need_asks, carry_out_asks, format_served, format_refused}
 use Rattle.formatting.proofs.format.Goals as goal
 
@@ -20,13 +20,15 @@ tape_need-requires c =
     need_asks a.device.now a.g a.volumes a.keys.now a.counts.now a.tape.now a.position.now.at c.in_ok-format_refusal.ensures
 
 pub carry_out-requires : goal.carry_out-requires
-carry_out-requires c =
+carry_out-requires c served =
     let a = c.args in
     carry_out_asks a.device.now a.g a.volumes a.keys.now a.counts.now a.tape.now a.position.now.at c.in_ok-format_refusal.ensures _
     c.tape_need.ensures _ c.draw-drawn.new.position.at c.draw-drawn.ensures
 
 pub returns : goal.returns
+unfolding unless_refused
 returns c =
     let a = c.args in
-    format_served a.device.now a.g a.volumes a.keys.now a.counts.now a.tape.now a.position.now.at c.in_ok-format_refusal.ensures _
-    c.tape_need.ensures _ c.draw-drawn.new.position.at c.draw-drawn.ensures _ c.carry_out.ensures
+    rw c.carry_out.ensures.0
+    (format_served a.device.now a.g a.volumes a.keys.now a.counts.now a.tape.now a.position.now.at c.in_ok-format_refusal.ensures _
+    c.tape_need.ensures _ c.draw-drawn.new.position.at c.draw-drawn.ensures _ c.carry_out.ensures.1)
