@@ -60,7 +60,8 @@ pub fn release_refusal(
     let g = session.geometry;
     tables::check_permutation(perm, g.p)?;
     requests::check_volume(session.k, volume)?;
-    if session.counts[volume] <= logical {
+    let counts = session.counts;
+    if counts[volume] <= logical {
         return Err(Refusal::AddressAbove);
     }
     check_slice(maps, tape, position, session, volume, logical)

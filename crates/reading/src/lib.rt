@@ -75,7 +75,9 @@ pub fn read(
         };
     }
     let g = session.geometry;
-    let key = places::key_in(&session.keys, volume);
+    // A copy: `requests::check_standing` says why.
+    let keys = session.keys;
+    let key = places::key_in(&keys, volume);
     let entry = tables::entry_at(maps, g, volume, address / g.s);
     decipher(device, g, key, entry, address % g.s, buf);
     Reply {

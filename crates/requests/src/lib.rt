@@ -31,7 +31,9 @@ pub fn check_standing(
     if 14 < session.k || g.p < session.start {
         return Err(Refusal::NotOpen);
     }
-    if places::any_bad_count(&session.counts, g.p, session.k + 1) {
+    // A copy of the counts, here and below: lent in place, they keep all of the session in memory, its data keys too, where nobody uses these.
+    let counts = session.counts;
+    if places::any_bad_count(&counts, g.p, session.k + 1) {
         return Err(Refusal::NotOpen);
     }
     if device != places::device_length(g) {
@@ -76,7 +78,8 @@ pub fn is_block_bad(maps: &[u32], session: Session, volume: usize, logical: usiz
     let per_block = places::entries_per_block(g);
     let first = logical / per_block * per_block;
     let n = per_block.min(g.p - first);
-    tables::any_bad(maps, g, volume, session.counts[volume], first, n)
+    let counts = session.counts;
+    tables::any_bad(maps, g, volume, counts[volume], first, n)
 }
 
 // The blocks of an open volume: N × S (document 02, P4).
@@ -84,7 +87,8 @@ pub fn block_count(session: Session, volume: usize) -> usize
     requires { Usable session × (volume ≤ session.k) }
     ensures { result ≡ block_count session volume }
 {
-    session.counts[volume] * session.geometry.s
+    let counts = session.counts;
+    counts[volume] * session.geometry.s
 }
 
 // 11, 12, 13 and 9 of a block asked for in a session that stands. The address is tested before it is divided.
