@@ -27,16 +27,20 @@ pub enum WalkReply {
 
 // ---- hexadecimal
 
-// The number that a digit stands for, `None` of a byte that is no digit. By hand, since `char::to_digit` of std takes uppercase too.
+// The number that a digit stands for, `None` of a byte that is no digit. By hand, since `char::to_digit` of std takes uppercase too. One
+// test of 16 at the end: an `Option` from each branch makes a line of random digits take more than twice as long.
 #[tactic(auto, using(std::proofs::lemmas::Bool::Decides::nat_tests), unfolding(crate::specs::Hexadecimal::value))]
 fn value(c: u8) -> Option<u8>
     ensures { MatchOption result (16 ≤ value·of c) (λ v. (v ≡ value·of c) × (v < 16)) }
 {
-    match c {
-        b'0'..=b'9' => Some(c - b'0'),
-        b'a'..=b'f' => Some(c - b'a' + 10),
-        _ => None,
-    }
+    let n = if b'0' <= c && c <= b'9' {
+        c - b'0'
+    } else if b'a' <= c && c <= b'f' {
+        c - b'a' + 10
+    } else {
+        16
+    };
+    if n < 16 { Some(n) } else { None }
 }
 
 // The digit of a number. By hand, since `char::from_digit` of std gives an `Option` of a `char`, which is no plainer.
