@@ -1,6 +1,7 @@
 -- What the code's values say of a walk: the walk as a state, and what a frame leaves and answers. Assumes nothing.
-use Rattle.std.specs.Prelude.{ℕ, ◌+◌, ◌*◌, ◌/◌, ◌≡◌, List, [], take}
+use Rattle.std.specs.Prelude.{ℕ, ◌+◌, ◌*◌, ◌/◌, ◌≡◌, Bool, true, List, [], take}
 use Rattle.model.specs.Parts.{choose}
+use Rattle.model.specs.declared.Geometry.{Geometry}
 use Rattle.model.specs.Geometry.{device_length, block_start}
 use Rattle.model.specs.Session.{held, geometry}
 use Rattle.deciding.specs.declared.Decision.{Decision}
@@ -21,6 +22,21 @@ state_of w =
       counted = w.counted;
       perm = choose w.shuffled (take w.geometry.p w.perm) [];
       held = held (take (15 * w.geometry.p) w.maps) (take w.geometry.p w.owners) w.position (all_open w.geometry w.start);
+    }
+
+-- A walk with lent tables, after a frame 02.
+abbrev pub walk_of : Geometry → (sized : Bool) → (counted position start : ℕ) → (maps owners perm : List ℕ) → Walk
+walk_of g sized counted position start maps owners perm =
+    record {
+      geometry = g;
+      sized = sized;
+      shuffled = true;
+      counted = counted;
+      position = position;
+      start = start;
+      maps = maps;
+      owners = owners;
+      perm = perm;
     }
 
 -- What the engine decides of a write of zeros in a state (`engine_write`).

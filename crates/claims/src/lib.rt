@@ -5,12 +5,12 @@
 // too.
 #![tactic(auto)]
 
-ghost use Rattle.std.specs.Prelude.{◌≡◌, true, ◌+◌, ◌*◌, ◌≤◌, ◌<◌};
+ghost use Rattle.std.specs.Prelude.{◌≡◌, Bool, ℕ, true, ◌+◌, ◌*◌, ◌≤◌, ◌<◌, length};
 ghost use Rattle.model.specs.Geometry.{Allowed};
 ghost use Rattle.lines.specs.Answers.{answer_bytes};
 ghost use Rattle.claims.specs.State.{all_open};
 ghost use Rattle.claims.specs.Claims.{written};
-ghost use Rattle.claims.specs.Answers.{state_of, Decides, Answers, Serves};
+ghost use Rattle.claims.specs.Answers.{state_of, walk_of, Decides, Answers, moved, Serves};
 
 use deciding::Decision;
 use lines::WalkReply;
@@ -34,7 +34,7 @@ pub const MAP_ENTRIES: usize = 15 * MOST_SLICES;
 
 // A walk: the geometry of the accepted frame 01, whether a frame 01 and a frame 02 were accepted, how many frames 03 of the right
 // length came, the tape position, the start place (document 02, P2), and the tables at the start of their arrays, since memory is fixed.
-#[derive(Drop)]
+#[derive(Clone, Copy)]
 pub struct Walk {
     pub geometry: Geometry,
     pub sized: bool,
@@ -63,71 +63,110 @@ fn all_open(g: Geometry, start: usize) -> Session
     }
 }
 
-impl Walk {
-    // A served frame 03, which looked at so many places and took so many tape bytes.
-    fn serve(&mut self, slice: usize, j: usize, probes: usize, drawn: usize) -> WalkReply
-        requires { Allowed self.old.geometry × (slice < self.old.geometry.p) × (j < self.old.geometry.s)
-            × (self.old.position + drawn ≤ 4096 * 4112) × (self.old.start + probes ≤ self.old.geometry.p) }
-        ensures { Serves self.old slice j probes drawn self.new result }
-    {
-        let g = self.geometry;
-        self.position += drawn;
-        self.start += probes;
-        WalkReply::Served {
-            slice,
-            block: places::block_start(g, slice, j) / g.b,
-            probes,
-            position: self.position,
+// What the engine decides of a write.
+fn decide(
+    g: Geometry,
+    position: usize,
+    start: usize,
+    maps: &[u32],
+    owners: &[u8],
+    perm: &[u32],
+    volume: usize,
+    address: usize,
+) -> Decision
+    requires { Allowed g × (15 * g.p ≤ length maps.now) × (g.p ≤ length owners.now) × (g.p ≤ length perm.now) }
+    ensures { (sized : Bool) (counted : ℕ)
+        → Decides (state_of (walk_of g sized counted position start maps.now owners.now perm.now)) volume address result }
+{
+    let p = g.p;
+    let entries = 15 * p;
+    deciding::decide(
+        places::device_length(g),
+        &maps[..entries],
+        &owners[..p],
+        &perm[..p],
+        TAPE,
+        position,
+        all_open(g, start),
+        volume,
+        address,
+        g.b,
+    )
+}
+
+// A served frame 03, which looked at so many places and took so many tape bytes.
+fn serve(
+    g: Geometry,
+    position: &mut usize,
+    start: &mut usize,
+    slice: usize,
+    j: usize,
+    probes: usize,
+    drawn: usize,
+) -> WalkReply
+    requires { Allowed g × (slice < g.p) × (j < g.s) × (position.old + drawn ≤ 4096 * 4112) × (start.old + probes ≤ g.p) }
+    ensures { (w : Walk) → w.geometry ≡ g → w.position ≡ position.old → w.start ≡ start.old
+        → Serves w slice j probes drawn (moved w position.new start.new) result }
+{
+    *position += drawn;
+    *start += probes;
+    WalkReply::Served {
+        slice,
+        block: places::block_start(g, slice, j) / g.b,
+        probes,
+        position: *position,
+    }
+}
+
+// The engine's write on lent tables, without ciphers and device: the engine decides, and tables, tape position and start place follow.
+pub fn claim(
+    g: Geometry,
+    position: &mut usize,
+    start: &mut usize,
+    maps: &mut [u32],
+    owners: &mut [u8],
+    perm: &[u32],
+    volume: usize,
+    address: usize,
+) -> Result<WalkReply, Refusal>
+    requires { Allowed g × (15 * g.p ≤ length maps.old) × (length maps.old ≤ 3840) × (g.p ≤ length owners.old) × (g.p ≤ length perm.now) }
+    ensures { (sized : Bool) (counted : ℕ)
+        → Answers (written (state_of (walk_of g sized counted position.old start.old maps.old owners.old perm.now)) volume address)
+        (state_of (walk_of g sized counted position.new start.new maps.new owners.new perm.now)) (answer_bytes result) }
+{
+    match decide(g, *position, *start, maps, owners, perm, volume, address) {
+        Decision::Refused { refusal, probes: _ } => Err(refusal),
+        Decision::Full => {
+            *start = g.p;
+            Err(Refusal::NoFreeSlice)
+        }
+        Decision::Rewrite(slice) => Ok(serve(g, position, start, slice, address % g.s, 0, 16)),
+        Decision::Claim { slice, place } => {
+            tables::assign(maps, owners, g, volume, address / g.s, slice);
+            let drawn = deciding::claim_need(g);
+            let probes = place + 1 - *start;
+            Ok(serve(g, position, start, slice, address % g.s, probes, drawn))
         }
     }
+}
 
-    // What the engine decides of a write.
-    fn decide(&self, volume: usize, address: usize) -> Decision
-        requires { Allowed self.now.geometry × (self.now.shuffled ≡ true) × (self.now.geometry.p ≤ 256) }
-        ensures { Decides (state_of self.now) volume address result }
-    {
-        let g = self.geometry;
-        let p = g.p;
-        let entries = 15 * p;
-        deciding::decide(
-            places::device_length(g),
-            &self.maps[..entries],
-            &self.owners[..p],
-            &self.perm[..p],
-            TAPE,
-            self.position,
-            all_open(g, self.start),
-            volume,
-            address,
-            g.b,
-        )
-    }
-
-    // The engine's write, without ciphers and device: the engine decides, and the tables follow.
+impl Walk {
+    // The engine's write on the walk's own tables.
     pub fn claim(&mut self, volume: usize, address: usize) -> Result<WalkReply, Refusal>
         requires { Allowed self.old.geometry × (self.old.shuffled ≡ true) × (self.old.geometry.p ≤ 256) }
-        ensures { Answers (written (state_of self.old) volume address) (state_of self.new) (answer_bytes result) }
+        ensures written { Answers (written (state_of self.old) volume address) (state_of self.new) (answer_bytes result) }
+        ensures perm { self.new.perm ≡ self.old.perm }
     {
         let g = self.geometry;
-        match self.decide(volume, address) {
-            Decision::Refused { refusal, probes: _ } => Err(refusal),
-            Decision::Full => {
-                self.start = g.p;
-                Err(Refusal::NoFreeSlice)
-            }
-            Decision::Rewrite(slice) => Ok(self.serve(slice, address % g.s, 0, 16)),
-            Decision::Claim { slice, place } => {
-                tables::assign(
-                    &mut self.maps,
-                    &mut self.owners,
-                    g,
-                    volume,
-                    address / g.s,
-                    slice,
-                );
-                let drawn = deciding::claim_need(g);
-                Ok(self.serve(slice, address % g.s, place + 1 - self.start, drawn))
-            }
-        }
+        claim(
+            g,
+            &mut self.position,
+            &mut self.start,
+            &mut self.maps,
+            &mut self.owners,
+            &self.perm,
+            volume,
+            address,
+        )
     }
 }
