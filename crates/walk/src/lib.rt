@@ -65,7 +65,7 @@ pub struct Fed {
 }
 
 // A walk, and what is kept of its unfinished line, at the start of an array: memory is fixed, there is no heap.
-#[derive(Drop)]
+#[derive(Clone, Copy)]
 pub struct LineReader {
     pub walk: Walk,
     pub line: [u8; LINE_BYTES],
@@ -91,20 +91,16 @@ impl LineReader {
         Fed { taken, length }
     }
 
-    // The end of the input, after which there is no reader: the output line of a last line without byte 0a, if there is one.
-    pub fn finish(self, out: &mut [u8; OUTPUT_BYTES]) -> usize
-        ensures { Writes (finish·of (reader_of self)) out.old out.new result }
+    // The end of the input: the output line of a last line without byte 0a, if there is one.
+    pub fn finish(&mut self, out: &mut [u8; OUTPUT_BYTES]) -> usize
+        ensures printed { Writes (finish·of (reader_of self.old)) out.old out.new result }
+        ensures line { (self.new.line ≡ self.old.line) × (self.new.used ≡ self.old.used) }
     {
-        let LineReader {
-            mut walk,
-            line,
-            used,
-        } = self;
-        if used == 0 {
+        if self.used == 0 {
             return 0;
         }
-        let kept = used.min(LINE_BYTES);
-        step(&mut walk, &line[..kept], out)
+        let kept = self.used.min(LINE_BYTES);
+        step(&mut self.walk, &self.line[..kept], out)
     }
 
     // More of a line behind what is kept of it, as far as 1,027 bytes go.

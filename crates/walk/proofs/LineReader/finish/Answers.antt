@@ -9,14 +9,14 @@ use Rattle.walk.specs.Answers.{reader_of}
 use Rattle.walk.proofs.Pieces.{finish_line, take_least}
 use Rattle.walk.proofs.LineReader.finish.Goals as goal
 
-pub returns-then-used-eq0 : goal.returns-then-used-eq0
+pub returns-then-self-eq0-clause-printed : goal.returns-then-self-eq0-clause-printed
 unfolding finish outputs
-returns-then-used-eq0 c =
-    rw c.if-used-eq0.true (record { put = sym (overlay_nil c.args.out.now); long = refl; fits = omega arith })
+returns-then-self-eq0-clause-printed c =
+    rw c.if-self-eq0.true (record { put = sym (overlay_nil c.args.out.now); long = refl; fits = omega arith })
 
-pub returns : goal.returns
-returns c =
-    let r = c.args.self in
+pub returns-clause-printed : goal.returns-clause-printed
+returns-clause-printed c =
+    let r = c.args.self.now in
     let long : length r.line ≡ 1027 = search (rules, c.well_formed) in
     let same : take r.used r.line ≡ take c.min-kept.result r.line = take_least r.line _ _ (omega arith) (λ l. omega arith) in
     rw (finish_line (reader_of r) (simp length-take (omega arith)), same) c.step.ensures.printed
