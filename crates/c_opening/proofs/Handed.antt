@@ -8,7 +8,7 @@ use Rattle.std.specs.Prelude.{Result}
 use Rattle.refusals.specs.Numbers.{answer_number}
 use Rattle.refusals.specs.declared.Refusal.{Refusal}
 use Rattle.model.specs.declared.Session.{Session}
-use Rattle.model.specs.Opening.{OpenOutcome}
+use Rattle.model.specs.Opening.{OpenOutcome, OpenResult}
 use Rattle.model.specs.Answers.{open_result, OpenLeaves}
 use Rattle.records.specs.Structs.{session_bytes}
 use Rattle.replies.specs.Answers.{open_number}
@@ -27,15 +27,21 @@ module _ {geometry session₀ maps₀ owners₀ : List ℕ} {o : OpenOutcome} wh
       let e = ne_eqb (length session₀) 648 other in
       record { number_is = rw (d, e) refl; mapped = rw (d, e) refl; owned = rw (d, e) refl; handed = rw (d, e) refl }
 
-  pub open_sized_lem : (a : Result ℕ Refusal) {maps owners session : List ℕ} {s : Session} {number : ℕ} → length geometry ≡ 24 → length session₀ ≡ 648
-      → OpenLeaves o (open_result a) maps owners s → number ≡ answer_number a → session ≡ session_bytes s
+  pub open_sized_lem : {a : OpenResult} {maps owners session : List ℕ} {s : Session} {number : ℕ} → length geometry ≡ 24 → length session₀ ≡ 648
+      → OpenLeaves o a maps owners s → number ≡ open_number a → session ≡ session_bytes s
       → OpenHanded geometry session₀ o maps₀ owners₀ number maps owners session
-  open_sized_lem a sized₁ sized₂ left number bytes =
+  open_sized_lem sized₁ sized₂ left number bytes =
       let d = eq-eqb (length geometry) 24 sized₁ in
       let e = eq-eqb (length session₀) 648 sized₂ in
       record {
-        number_is = rw (d, e) (number ∙ open_number_answer a ∙ ap open_number left.answered);
+        number_is = rw (d, e) (number ∙ ap open_number left.answered);
         mapped = rw (d, e) left.mapped;
         owned = rw (d, e) left.owned;
         handed = rw (d, e) (bytes ∙ ap session_bytes left.handed);
       }
+
+  -- The same of an answer as the code has it.
+  pub open_answered : (a : Result ℕ Refusal) {maps owners session : List ℕ} {s : Session} {number : ℕ} → length geometry ≡ 24 → length session₀ ≡ 648
+      → OpenLeaves o (open_result a) maps owners s → number ≡ answer_number a → session ≡ session_bytes s
+      → OpenHanded geometry session₀ o maps₀ owners₀ number maps owners session
+  open_answered a sized₁ sized₂ left number bytes = open_sized_lem sized₁ sized₂ left (number ∙ open_number_answer a) bytes
